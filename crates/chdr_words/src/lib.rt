@@ -1,0 +1,23 @@
+//! The words of a CHDR packet: endpoint ids, the sizes on the wire, and the four payloads.
+#![tactic(auto)]
+
+mod command;
+mod control;
+mod epid;
+mod lists;
+mod management;
+mod status;
+mod wire;
+mod words15;
+
+pub use command::{CmdOp, Command};
+pub use control::{Control, CtrlOp, CtrlStatus};
+pub use epid::Epid;
+pub use lists::{Bytes, Bytes32, EpidList, Hop, HopList, WordList};
+pub use management::{Management, MgmtOp};
+pub use status::{Status, StatusCode};
+pub use wire::wire_size;
+pub use words15::Words15;
+
+#[cfg(test)]
+mod tests;
