@@ -1,0 +1,25 @@
+//! Where bytes come from and go to: sources and sinks that count their faults.
+//!
+//! Rule: docs/scripts-and-reports.md, "Sources and sinks".
+#![tactic(auto)]
+
+mod failed;
+mod loops;
+mod mem_sink;
+mod mem_source;
+mod sink;
+mod source;
+mod std_ends;
+mod sure;
+
+pub use failed::{Failed, ReadAllFault};
+pub use loops::{read_all, write_all};
+pub use mem_sink::MemSink;
+pub use mem_source::{CountList, MemSource};
+pub use sink::Sink;
+pub use source::Source;
+pub use std_ends::{StdSink, StdSource};
+pub use sure::{SureSink, SureSource};
+
+#[cfg(test)]
+mod tests;
