@@ -6,3 +6,6 @@ mod plan;
 
 pub use kind::BlockKind;
 pub use plan::TxPlan;
+
+#[cfg(test)]
+mod tests;

@@ -1,0 +1,2 @@
+pub mod ProducerLemmas
+pub mod SampleLemmas
