@@ -1,0 +1,35 @@
+-- Numbers of packets and bytes, whole and as they are spelled: modulo 2^40 and 2^64.
+use Rattle.std.specs.Prelude.{ℕ, ◌+◌, ◌-◌, ◌%◌, ◌^◌, Bool, ◌&&◌, ◌==◌}
+use Rattle.stream_endpoint.specs.declared.count.Count.{Count}
+
+abbrev pub none : Count
+none = record { packets = 0; bytes = 0 }
+
+-- one packet of this wire size
+abbrev pub one_of : ℕ → Count
+one_of wire = record { packets = 1; bytes = wire }
+
+abbrev pub plus : Count → Count → Count
+plus a b = record { packets = a.packets + b.packets; bytes = a.bytes + b.bytes }
+
+-- a less b, where b is part of a
+abbrev pub less : Count → Count → Count
+less a b = record { packets = a.packets - b.packets; bytes = a.bytes - b.bytes }
+
+abbrev pub is_none : Count → Bool
+is_none a = (a.packets == 0) && (a.bytes == 0)
+
+-- how a status or a command spells a count
+abbrev pub spelled : Count → Count
+spelled a = record { packets = a.packets % 2 ^ 40; bytes = a.bytes % 2 ^ 64 }
+
+-- the remainder of a less b, also where b is greater
+abbrev pub less_modulo : ℕ → ℕ → ℕ → ℕ
+less_modulo m a b = (a + (m - b % m)) % m
+
+-- a less b as far as their spellings tell
+abbrev pub spelled_less : Count → Count → Count
+spelled_less a b = record {
+  packets = less_modulo (2 ^ 40) a.packets b.packets;
+  bytes = less_modulo (2 ^ 64) a.bytes b.bytes;
+}

@@ -1,0 +1,6 @@
+pub mod Counts
+pub mod Flow
+pub mod InEnd
+pub mod OutEnd
+pub mod Receiver
+pub mod Sender

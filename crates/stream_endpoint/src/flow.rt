@@ -1,0 +1,42 @@
+ghost use Rattle.std.specs.Prelude.{IsTrue, ◌↔◌};
+ghost use Rattle.stream_endpoint.specs.Flow.{IsValid};
+
+/// What a receiver can hold, and how often it reports.
+#[derive(Clone, Copy, Debug, PartialEq, Eq)]
+pub struct Flow {
+    /// The capacity in bytes of wire size.
+    pub cap_bytes: u64,
+    /// The capacity in packets.
+    pub cap_packets: u32,
+    /// A status is due once this many bytes were taken since the last one,
+    pub freq_bytes: u64,
+    /// or this many packets.
+    pub freq_packets: u32,
+    /// The greatest wire size of a packet.
+    pub max: u32,
+}
+
+/// What a sender does once a packet is lost.
+#[derive(Clone, Copy, Debug, PartialEq, Eq)]
+pub enum Policy {
+    /// It resynchronises and goes on.
+    Auto,
+    /// It halts.
+    Off,
+}
+
+impl Flow {
+    /// Whether a stream can run under this flow without ever waiting for good.
+    ///
+    /// Rule: docs/streams.md, "Flow".
+    pub fn valid(&self) -> bool
+        ensures { IsTrue result ↔ IsValid self.now }
+    {
+        let bytes = self.cap_bytes < 1 << 40
+            && self.max as u64 <= self.cap_bytes
+            && self.freq_bytes <= self.cap_bytes - self.max as u64;
+        let packets = self.freq_packets <= self.cap_packets && self.cap_packets <= 1024;
+        let least = self.freq_bytes >= 1 && self.freq_packets >= 1;
+        bytes && packets && least && self.max >= 16 && self.max <= 8192
+    }
+}

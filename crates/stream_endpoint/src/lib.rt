@@ -1,0 +1,12 @@
+//! Both ends of a stream: credit at the sender, gaps and resynchronisation at the receiver.
+#![tactic(auto)]
+
+mod count;
+mod fault;
+mod flow;
+mod state;
+
+pub use count::Count;
+pub use fault::{Fault, Faults};
+pub use flow::{Flow, Policy};
+pub use state::{Arrived, Gap, Notice, OutState};
