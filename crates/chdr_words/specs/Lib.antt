@@ -1,1 +1,4 @@
+pub mod Field
 pub mod Wire
+pub mod NodeInfo
+pub mod Cfg
