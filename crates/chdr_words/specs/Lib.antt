@@ -2,3 +2,8 @@ pub mod Field
 pub mod Wire
 pub mod NodeInfo
 pub mod Cfg
+pub mod Header
+pub mod Status
+pub mod Command
+pub mod Control
+pub mod Management

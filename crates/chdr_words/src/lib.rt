@@ -4,21 +4,25 @@
 mod command;
 mod control;
 mod epid;
+mod header;
 mod lists;
 mod management;
 mod node_info;
 mod status;
 mod wire;
+mod word;
 mod words15;
 
 pub use command::{CmdOp, Command};
 pub use control::{Control, CtrlOp, CtrlStatus};
 pub use epid::Epid;
+pub use header::{Header, PktType};
 pub use lists::{Bytes, Bytes32, EpidList, Hop, HopList, WordList};
 pub use management::{Management, MgmtOp};
 pub use node_info::{Cfg, NodeInfo};
 pub use status::{Status, StatusCode};
 pub use wire::wire_size;
+pub use word::Word;
 pub use words15::Words15;
 
 #[cfg(test)]
