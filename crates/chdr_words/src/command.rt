@@ -1,4 +1,8 @@
-use crate::Epid;
+ghost use Rattle.std.specs.Prelude.{◌≡◌, ◌<◌, ◌^◌, IfOk};
+ghost use Rattle.chdr_words.specs.Command.{FitsCmdOp, FitsCommand, SpellsCommand, cmd_number, cmd_op_of, command_read};
+
+use crate::bytes::{two_words, word_at};
+use crate::{Epid, MsgFault};
 
 /// What a stream command asks; the number is its code on the wire, 3 to 15 for `Other`.
 #[derive(Clone, Copy, Debug, PartialEq, Eq)]
@@ -20,4 +24,57 @@ pub struct Command {
     pub packets: u64,
     /// Bytes: the frequency of INIT, the totals of RESYNC modulo 2^64.
     pub bytes: u64,
+}
+
+fn op_of(number: u8) -> CmdOp
+    ensures { result ≡ cmd_op_of number }
+{
+    match number {
+        0 => CmdOp::Init,
+        1 => CmdOp::Ping,
+        2 => CmdOp::Resync,
+        other => CmdOp::Other(other),
+    }
+}
+
+fn number_of(op: CmdOp) -> u8
+    requires { FitsCmdOp op }
+    ensures number { result ≡ cmd_number op }
+    ensures below { result < 2 ^ 4 }
+{
+    match op {
+        CmdOp::Init => 0,
+        CmdOp::Ping => 1,
+        CmdOp::Resync => 2,
+        CmdOp::Other(other) => other,
+    }
+}
+
+/// The one spelling of the command.
+pub fn encode_command(v: &Command) -> [u8; 16]
+    requires { FitsCommand v.now }
+    ensures { SpellsCommand v.now result }
+{
+    let op = number_of(v.op) as u64 * (1 << 16);
+    let data = v.op_data as u64 * (1 << 20);
+    two_words(v.packets * (1 << 24) + data + op + v.src.0 as u64, v.bytes)
+}
+
+/// The command that the payload spells; each payload of the right size spells one.
+pub fn decode_command(b: &[u8]) -> Result<Command, MsgFault>
+    ensures reads { IfOk result (λ c. SpellsCommand c b.now) }
+    ensures accepts { (c : Command) → SpellsCommand c b.now → result ≡ Ok c }
+    ensures exact { result ≡ command_read b.now }
+{
+    if b.len() != 16 {
+        return Err(MsgFault::BadCommandLength);
+    }
+    let first = word_at(b, 0);
+    Ok(Command {
+        op: op_of((first / (1 << 16) % (1 << 4)) as u8),
+        op_data: (first / (1 << 20) % (1 << 4)) as u8,
+        src: Epid((first % (1 << 16)) as u16),
+        packets: first / (1 << 24),
+        bytes: word_at(b, 8),
+    })
 }

@@ -1,9 +1,11 @@
 //! The words of a CHDR packet: endpoint ids, the sizes on the wire, and the four payloads.
 #![tactic(auto)]
 
+mod bytes;
 mod command;
 mod control;
 mod epid;
+mod fault;
 mod header;
 mod lists;
 mod management;
@@ -13,14 +15,16 @@ mod wire;
 mod word;
 mod words15;
 
-pub use command::{CmdOp, Command};
+pub use bytes::{half_at, word_at};
+pub use command::{CmdOp, Command, decode_command, encode_command};
 pub use control::{Control, CtrlOp, CtrlStatus};
 pub use epid::Epid;
+pub use fault::MsgFault;
 pub use header::{Header, PktType};
 pub use lists::{Bytes, Bytes32, EpidList, Hop, HopList, WordList};
 pub use management::{Management, MgmtOp};
 pub use node_info::{Cfg, NodeInfo};
-pub use status::{Status, StatusCode};
+pub use status::{Status, StatusCode, decode_status, encode_status};
 pub use wire::wire_size;
 pub use word::Word;
 pub use words15::Words15;

@@ -1,4 +1,8 @@
-use crate::Epid;
+ghost use Rattle.std.specs.Prelude.{◌≡◌, ◌<◌, ◌^◌, IfOk, IsTrue};
+ghost use Rattle.chdr_words.specs.Status.{FitsStatus, FitsStatusCode, SpellsStatus, status_code_of, status_number, status_plain, status_read};
+
+use crate::bytes::{four_words, word_at};
+use crate::{Epid, MsgFault};
 
 /// What a stream status reports; the number is its code on the wire, 5 to 15 for `Other`.
 #[derive(Clone, Copy, Debug, PartialEq, Eq)]
@@ -27,4 +31,70 @@ pub struct Status {
     /// What the code tells besides, below 2^48.
     pub info: u64,
     pub buffer: u16,
+}
+
+fn code_of(number: u8) -> StatusCode
+    ensures { result ≡ status_code_of number }
+{
+    match number {
+        0 => StatusCode::Okay,
+        1 => StatusCode::CmdErr,
+        2 => StatusCode::SeqErr,
+        3 => StatusCode::DataErr,
+        4 => StatusCode::RtErr,
+        other => StatusCode::Other(other),
+    }
+}
+
+fn number_of(code: StatusCode) -> u8
+    requires { FitsStatusCode code }
+    ensures number { result ≡ status_number code }
+    ensures below { result < 2 ^ 4 }
+{
+    match code {
+        StatusCode::Okay => 0,
+        StatusCode::CmdErr => 1,
+        StatusCode::SeqErr => 2,
+        StatusCode::DataErr => 3,
+        StatusCode::RtErr => 4,
+        StatusCode::Other(other) => other,
+    }
+}
+
+/// The canonical spelling of the status.
+pub fn encode_status(v: &Status) -> [u8; 32]
+    requires { FitsStatus v.now }
+    ensures spells { SpellsStatus v.now result }
+    ensures plain { IsTrue (status_plain result) }
+{
+    four_words(
+        v.cap_bytes * (1 << 24) + number_of(v.code) as u64 * (1 << 16) + v.src.0 as u64,
+        v.got_packets * (1 << 24) + v.cap_packets as u64,
+        v.got_bytes,
+        v.info * (1 << 16) + v.buffer as u64,
+    )
+}
+
+/// The status that the payload spells; each payload of the right size spells one.
+pub fn decode_status(b: &[u8]) -> Result<Status, MsgFault>
+    ensures reads { IfOk result (λ s. SpellsStatus s b.now) }
+    ensures accepts { (s : Status) → SpellsStatus s b.now → result ≡ Ok s }
+    ensures exact { result ≡ status_read b.now }
+{
+    if b.len() != 32 {
+        return Err(MsgFault::BadStatusLength);
+    }
+    let first = word_at(b, 0);
+    let second = word_at(b, 8);
+    let fourth = word_at(b, 24);
+    Ok(Status {
+        code: code_of((first / (1 << 16) % (1 << 4)) as u8),
+        src: Epid((first % (1 << 16)) as u16),
+        cap_bytes: first / (1 << 24),
+        cap_packets: (second % (1 << 24)) as u32,
+        got_packets: second / (1 << 24),
+        got_bytes: word_at(b, 16),
+        info: fourth / (1 << 16),
+        buffer: (fourth % (1 << 16)) as u16,
+    })
 }
