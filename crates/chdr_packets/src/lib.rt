@@ -1,6 +1,7 @@
 //! Whole CHDR packets at the 64-bit width.
 #![tactic(auto)]
 
+mod length;
 mod packet;
 
 pub use packet::{Body, Packet, PacketList};
