@@ -1,5 +1,5 @@
 -- What a flow allows.
-use Rattle.std.specs.Prelude.{ℕ, ◌+◌, ◌^◌, ◌<◌, ◌≤◌}
+use Rattle.std.specs.Prelude.{ℕ, ◌+◌, ◌^◌, ◌<◌, ◌≤◌, Bool, ◌&&◌, nat_le}
 use Rattle.stream_endpoint.specs.declared.count.Count.{Count}
 use Rattle.stream_endpoint.specs.declared.flow.Flow.{Flow}
 
@@ -18,6 +18,11 @@ pub record IsValid (flow : Flow) : Type 0 where
 abbrev pub HasRoom : Flow → Count → ℕ → Type 0
 HasRoom flow held wire =
     (held.bytes + wire ≤ flow.cap_bytes) × (held.packets + 1 ≤ flow.cap_packets)
+
+-- the test of it
+abbrev pub has_room : Flow → Count → ℕ → Bool
+has_room flow held wire =
+    nat_le (held.bytes + wire) flow.cap_bytes && nat_le (held.packets + 1) flow.cap_packets
 
 -- credit: with what is outstanding, one more packet of this wire size is within the capacity
 abbrev pub HasCredit : Flow → Count → ℕ → Type 0

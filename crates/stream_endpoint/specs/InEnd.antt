@@ -1,4 +1,4 @@
--- A receiving end: what it was made for, and its receiver.
+-- A receiving end as contracts see it: what it was made for, and its receiver.
 use Rattle.std.specs.Prelude.{◌≡◌, ℕ, ◌+◌, ◌*◌, Option, Some, None}
 use Rattle.chdr_words.specs.declared.command.CmdOp.{CmdOp}
 use Rattle.chdr_words.specs.declared.command.CmdOp.TheVariants.{Init, Ping, Resync, Other}
@@ -11,15 +11,19 @@ use Rattle.stream_endpoint.specs.declared.count.Count.{Count}
 use Rattle.stream_endpoint.specs.declared.flow.Flow.{Flow}
 use Rattle.stream_endpoint.specs.declared.state.Gap.{Gap}
 use Rattle.stream_endpoint.specs.Counts.{spelled, spelled_less}
-use Rattle.stream_endpoint.specs.Receiver.{Receiver}
+use Rattle.stream_endpoint.specs.Receiver.{Receiver, listening}
 
-pub record InEnd : Type 0 where
+pub record Receiving : Type 0 where
   pub me : Epid
   pub flow : Flow
   pub receiver : Receiver
 
+-- an end that has received nothing; its counts begin at the start
+abbrev pub receiving : Epid → Flow → Count → Receiving
+receiving me flow start = record { me = me; flow = flow; receiver = listening flow start }
+
 -- a change of the receiver alone
-abbrev pub on_receiver : (Receiver → Receiver) → InEnd → InEnd
+abbrev pub on_receiver : (Receiver → Receiver) → Receiving → Receiving
 on_receiver next end = record end { receiver = next end.receiver }
 
 -- what is kept of a receiver
@@ -27,7 +31,7 @@ abbrev pub kept_receiver : Receiver → Receiver
 kept_receiver r = record r { reached = spelled r.reached }
 
 -- what is kept of an end whose receiver has whole counts
-abbrev pub kept : InEnd → InEnd
+abbrev pub kept : Receiving → Receiving
 kept end = on_receiver kept_receiver end
 
 -- the counts of a command, as far as they are spelled
@@ -53,7 +57,7 @@ info_by None = 0
 info_by (Some gap) = gap.expected * 65536 + gap.got
 
 -- the status that reports a receiver
-abbrev pub status_of : InEnd → Status
+abbrev pub status_of : Receiving → Status
 status_of end = let r = end.receiver in let got = spelled_less r.reached r.buffered in record {
   code = code_by r.broken;
   src = end.me;

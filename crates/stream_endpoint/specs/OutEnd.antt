@@ -1,23 +1,28 @@
--- A sending end: what it was made for, and its sender.
+-- A sending end as contracts see it: what it was made for, and its sender.
 use Rattle.chdr_words.specs.declared.command.CmdOp.{CmdOp}
 use Rattle.chdr_words.specs.declared.command.CmdOp.TheVariants.{Init, Ping, Resync, Other}
 use Rattle.chdr_words.specs.declared.command.Command.{Command}
 use Rattle.chdr_words.specs.declared.epid.Epid.{Epid}
+use Rattle.chdr_words.specs.declared.status.Status.{Status}
 use Rattle.stream_endpoint.specs.declared.count.Count.{Count}
 use Rattle.stream_endpoint.specs.declared.flow.Flow.{Flow}
 use Rattle.stream_endpoint.specs.declared.flow.Policy.{Policy}
 use Rattle.stream_endpoint.specs.Counts.{none, spelled}
 use Rattle.stream_endpoint.specs.Flow.{frequency}
-use Rattle.stream_endpoint.specs.Sender.{Sender}
+use Rattle.stream_endpoint.specs.Sender.{Sender, opening}
 
-pub record OutEnd : Type 0 where
+pub record Sending : Type 0 where
   pub me : Epid
   pub flow : Flow
   pub policy : Policy
   pub sender : Sender
 
+-- an end that has sent nothing; its counts begin at the start
+abbrev pub sending : Epid → Flow → Policy → Count → Sending
+sending me flow policy start = record { me = me; flow = flow; policy = policy; sender = opening start }
+
 -- a change of the sender alone
-abbrev pub on_sender : (Sender → Sender) → OutEnd → OutEnd
+abbrev pub on_sender : (Sender → Sender) → Sending → Sending
 on_sender next end = record end { sender = next end.sender }
 
 -- what is kept of a sender
@@ -25,8 +30,12 @@ abbrev pub kept_sender : Sender → Sender
 kept_sender s = record s { sent = spelled s.sent }
 
 -- what is kept of an end whose sender has whole counts
-abbrev pub kept : OutEnd → OutEnd
+abbrev pub kept : Sending → Sending
 kept end = on_sender kept_sender end
+
+-- the counts that a status tells
+abbrev pub told_by : Status → Count
+told_by status = record { packets = status.got_packets; bytes = status.got_bytes }
 
 -- the counts that a command carries: the frequency of INIT, the totals of RESYNC
 abbrev pub commanded_counts : Flow → Sender → CmdOp → Count
@@ -36,6 +45,6 @@ commanded_counts flow s Resync = spelled s.sent
 commanded_counts flow s (Other code) = none
 
 -- the command with this operation
-abbrev pub command_of : CmdOp → OutEnd → Command
+abbrev pub command_of : CmdOp → Sending → Command
 command_of op end = let counts = commanded_counts end.flow end.sender op in
     record { op = op; op_data = 0; src = end.me; packets = counts.packets; bytes = counts.bytes }

@@ -12,7 +12,7 @@ use Rattle.stream_endpoint.specs.declared.flow.Policy.TheVariants.{Auto, Off}
 use Rattle.stream_endpoint.specs.declared.state.OutState.{OutState}
 use Rattle.stream_endpoint.specs.declared.state.OutState.TheVariants.{Opening, Running, Halted, Resyncing}
 use Rattle.stream_endpoint.specs.Counts.{none, one_of, plus, less, is_none, spelled_less}
-use Rattle.stream_endpoint.specs.Flow.{HasCredit}
+use Rattle.stream_endpoint.specs.Flow.{HasCredit, has_room}
 
 -- The known count, of what the receiver said to have transferred, is sent less outstanding.
 pub record Sender : Type 0 where
@@ -38,6 +38,16 @@ opening start = record { state = Opening; sent = start; outstanding = none; ping
 -- a sender may send a packet of this wire size
 abbrev pub MaySend : Flow → Sender → ℕ → Type 0
 MaySend flow s wire = (s.state ≡ Running) × HasCredit flow s.outstanding wire
+
+abbrev pub is_running : OutState → Bool
+is_running Opening = false
+is_running Running = true
+is_running Halted = false
+is_running Resyncing = false
+
+-- the test of it
+abbrev pub may_send : Flow → Sender → ℕ → Bool
+may_send flow s wire = is_running s.state && has_room flow s.outstanding wire
 
 -- the number of the next packet
 abbrev pub next_number : Sender → ℕ

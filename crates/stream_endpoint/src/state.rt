@@ -1,3 +1,6 @@
+ghost use Rattle.std.specs.Prelude.{◌≡◌, ◌+◌, ◌*◌};
+ghost use Rattle.stream_endpoint.specs.Receiver.{is_due_by, notice_after};
+
 use crate::Count;
 
 /// The state of a sending end; docs/streams.md draws its changes.
@@ -37,4 +40,41 @@ pub enum Notice {
     Due,
     /// None is owed; so much was taken since the last one.
     Since(Count),
+}
+
+impl Gap {
+    /// What a SEQERR tells of the gap: 65,536 times the expected number and the one that came.
+    pub fn info(self) -> u64
+        ensures { result ≡ self.expected * 65536 + self.got }
+    {
+        self.expected as u64 * 65536 + self.got as u64
+    }
+}
+
+impl Notice {
+    pub fn is_due(self) -> bool
+        ensures { result ≡ is_due_by self }
+    {
+        matches!(self, Notice::Due)
+    }
+
+    /// The notice once so much more was taken under this frequency.
+    ///
+    /// Rule: docs/streams.md, "The receiver".
+    pub fn after(self, frequency: Count, more: Count) -> Notice
+        ensures { result ≡ notice_after frequency more self }
+    {
+        match self {
+            Notice::Due => Notice::Due,
+            Notice::Since(before) => {
+                let packets = before.packets.saturating_add(more.packets);
+                let bytes = before.bytes.saturating_add(more.bytes);
+                if packets >= frequency.packets || bytes >= frequency.bytes {
+                    Notice::Due
+                } else {
+                    Notice::Since(Count { packets, bytes })
+                }
+            }
+        }
+    }
 }
