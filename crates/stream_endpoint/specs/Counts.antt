@@ -2,6 +2,9 @@
 use Rattle.std.specs.Prelude.{ℕ, ◌+◌, ◌-◌, ◌%◌, ◌^◌, Bool, ◌&&◌, ◌==◌}
 use Rattle.stream_endpoint.specs.declared.count.Count.{Count}
 
+abbrev pub count : ℕ → ℕ → Count
+count packets bytes = record { packets = packets; bytes = bytes }
+
 abbrev pub none : Count
 none = record { packets = 0; bytes = 0 }
 

@@ -1,5 +1,6 @@
 -- A receiving end as contracts see it: what it was made for, and its receiver.
 use Rattle.std.specs.Prelude.{◌≡◌, ℕ, ◌+◌, ◌*◌, Option, Some, None}
+use Rattle.rf_base.specs.Kept.{Follows}
 use Rattle.chdr_words.specs.declared.command.CmdOp.{CmdOp}
 use Rattle.chdr_words.specs.declared.command.CmdOp.TheVariants.{Init, Ping, Resync, Other}
 use Rattle.chdr_words.specs.declared.command.Command.{Command}
@@ -9,9 +10,10 @@ use Rattle.chdr_words.specs.declared.status.StatusCode.{StatusCode}
 use Rattle.chdr_words.specs.declared.status.StatusCode.TheVariants.{Okay, SeqErr}
 use Rattle.stream_endpoint.specs.declared.count.Count.{Count}
 use Rattle.stream_endpoint.specs.declared.flow.Flow.{Flow}
+use Rattle.stream_endpoint.specs.declared.state.Arrived.{Arrived}
 use Rattle.stream_endpoint.specs.declared.state.Gap.{Gap}
-use Rattle.stream_endpoint.specs.Counts.{spelled, spelled_less}
-use Rattle.stream_endpoint.specs.Receiver.{Receiver, listening}
+use Rattle.stream_endpoint.specs.Counts.{count, spelled, spelled_less}
+use Rattle.stream_endpoint.specs.Receiver.{Receiver, listening, expected, arrival, obeys}
 
 pub record Receiving : Type 0 where
   pub me : Epid
@@ -34,9 +36,13 @@ kept_receiver r = record r { reached = spelled r.reached }
 abbrev pub kept : Receiving → Receiving
 kept end = on_receiver kept_receiver end
 
+-- what becomes of a packet with this number
+abbrev pub arrival_of : ℕ → Receiving → Arrived
+arrival_of number end = arrival end.receiver.broken (expected end.receiver) number
+
 -- the counts of a command, as far as they are spelled
 abbrev pub counts_of : Command → Count
-counts_of c = spelled (record { packets = c.packets; bytes = c.bytes })
+counts_of c = spelled (count c.packets c.bytes)
 
 -- what a command of this operation with these spelled counts may mean in whole counts
 abbrev pub MeansBy : CmdOp → Count → Count → Type 0
@@ -45,8 +51,17 @@ MeansBy Ping counts told = Unit {0}
 MeansBy Resync counts told = counts ≡ spelled told
 MeansBy (Other code) counts told = Unit {0}
 
+-- what a command may mean in whole counts
 abbrev pub Means : Command → Count → Type 0
 Means c told = MeansBy c.op (counts_of c) told
+
+-- a command of these counts arrives
+abbrev pub after_command : Command → Count → Receiving → Receiving
+after_command c told end = on_receiver (obeys c.op told) end
+
+-- an end obeys a command, whatever whole counts it means
+abbrev pub Obeys : Command → Receiving → Receiving → Type 0
+Obeys c old new = (told : Count) → Means c told → Follows kept old new (after_command c told)
 
 abbrev pub code_by : Option Gap → StatusCode
 code_by None = Okay

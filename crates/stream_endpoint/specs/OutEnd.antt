@@ -1,4 +1,5 @@
 -- A sending end as contracts see it: what it was made for, and its sender.
+use Rattle.std.specs.Prelude.{ℕ, Bool}
 use Rattle.chdr_words.specs.declared.command.CmdOp.{CmdOp}
 use Rattle.chdr_words.specs.declared.command.CmdOp.TheVariants.{Init, Ping, Resync, Other}
 use Rattle.chdr_words.specs.declared.command.Command.{Command}
@@ -7,9 +8,9 @@ use Rattle.chdr_words.specs.declared.status.Status.{Status}
 use Rattle.stream_endpoint.specs.declared.count.Count.{Count}
 use Rattle.stream_endpoint.specs.declared.flow.Flow.{Flow}
 use Rattle.stream_endpoint.specs.declared.flow.Policy.{Policy}
-use Rattle.stream_endpoint.specs.Counts.{none, spelled}
+use Rattle.stream_endpoint.specs.Counts.{count, none, spelled}
 use Rattle.stream_endpoint.specs.Flow.{frequency}
-use Rattle.stream_endpoint.specs.Sender.{Sender, opening}
+use Rattle.stream_endpoint.specs.Sender.{Sender, opening, may_send, hears, after_okay, after_gap}
 
 pub record Sending : Type 0 where
   pub me : Epid
@@ -19,7 +20,12 @@ pub record Sending : Type 0 where
 
 -- an end that has sent nothing; its counts begin at the start
 abbrev pub sending : Epid → Flow → Policy → Count → Sending
-sending me flow policy start = record { me = me; flow = flow; policy = policy; sender = opening start }
+sending me flow policy start = record {
+  me = me;
+  flow = flow;
+  policy = policy;
+  sender = opening start;
+}
 
 -- a change of the sender alone
 abbrev pub on_sender : (Sender → Sender) → Sending → Sending
@@ -33,9 +39,25 @@ kept_sender s = record s { sent = spelled s.sent }
 abbrev pub kept : Sending → Sending
 kept end = on_sender kept_sender end
 
+-- the test of credit, under the end's flow
+abbrev pub may_send_of : ℕ → Sending → Bool
+may_send_of wire end = may_send end.flow end.sender wire
+
 -- the counts that a status tells
 abbrev pub told_by : Status → Count
-told_by status = record { packets = status.got_packets; bytes = status.got_bytes }
+told_by status = count status.got_packets status.got_bytes
+
+-- an OKAY, once its counts are taken in
+abbrev pub on_okay : Bool → Sending → Sending
+on_okay missed end = on_sender (after_okay end.sender.state end.policy missed) end
+
+-- a SEQERR, once its counts are taken in
+abbrev pub on_gap : Sending → Sending
+on_gap end = on_sender (after_gap end.sender.state end.policy) end
+
+-- a status arrives
+abbrev pub after_status : Status → Sending → Sending
+after_status status end = on_sender (hears end.policy status.code (told_by status)) end
 
 -- the counts that a command carries: the frequency of INIT, the totals of RESYNC
 abbrev pub commanded_counts : Flow → Sender → CmdOp → Count

@@ -13,7 +13,8 @@ use Rattle.stream_endpoint.specs.declared.state.Notice.TheVariants.{Due, Since}
 use Rattle.stream_endpoint.specs.Counts.{none, one_of, plus, less}
 use Rattle.stream_endpoint.specs.Flow.{HasRoom, frequency}
 
--- The transferred count is reached less buffered; the last reported one is that less what `notice` says.
+-- The transferred count is reached less buffered.
+-- Where no status is due, the last reported count is the transferred one less what `notice` says.
 pub record Receiver : Type 0 where
   -- the gap of a broken receiver, none at a good one
   pub broken : Option Gap
@@ -33,7 +34,13 @@ expected r = r.reached.packets % 2 ^ 16
 
 -- a receiver at the start of its stream
 abbrev pub listening : Flow → Count → Receiver
-listening flow start = record { broken = None; reached = start; buffered = none; frequency = frequency flow; notice = Since none }
+listening flow start = record {
+  broken = None;
+  reached = start;
+  buffered = none;
+  frequency = frequency flow;
+  notice = Since none;
+}
 
 -- what becomes of a packet with this number, by the gap of the receiver
 abbrev pub arrival : Option Gap → ℕ → ℕ → Arrived
@@ -42,11 +49,17 @@ arrival (Some gap) expected number = Discarded
 
 -- a packet of this wire size is kept
 abbrev pub keeps : ℕ → Receiver → Receiver
-keeps wire r = record r { reached = plus r.reached (one_of wire); buffered = plus r.buffered (one_of wire) }
+keeps wire r = record r {
+  reached = plus r.reached (one_of wire);
+  buffered = plus r.buffered (one_of wire);
+}
 
 -- a later packet than the expected one comes: the receiver breaks, and says so
 abbrev pub breaks : ℕ → Receiver → Receiver
-breaks number r = record r { broken = Some (record { expected = expected r; got = number }); notice = Due }
+breaks number r = record r {
+  broken = Some (record { expected = expected r; got = number });
+  notice = Due;
+}
 
 -- a packet of this number and wire size arrives
 abbrev pub arrives_at : Option Gap → ℕ → ℕ → Receiver → Receiver
@@ -62,7 +75,8 @@ FindsRoom flow r number wire = r.broken ≡ None → number ≡ expected r → H
 
 -- so much taken is worth a status
 abbrev pub is_much : Count → Count → Bool
-is_much frequency taken = nat_le frequency.packets taken.packets || nat_le frequency.bytes taken.bytes
+is_much frequency taken =
+    nat_le frequency.packets taken.packets || nat_le frequency.bytes taken.bytes
 
 -- whether a status is due after so much more was taken
 abbrev pub notice_after : Count → Count → Notice → Notice
@@ -72,7 +86,10 @@ notice_after frequency taken (Since before) =
 
 -- so much of what is buffered is taken
 abbrev pub takes : Count → Receiver → Receiver
-takes taken r = record r { buffered = less r.buffered taken; notice = notice_after r.frequency taken r.notice }
+takes taken r = record r {
+  buffered = less r.buffered taken;
+  notice = notice_after r.frequency taken r.notice;
+}
 
 -- a command arrives: an INIT of this frequency, a PING, or a RESYNC of these totals
 abbrev pub obeys : CmdOp → Count → Receiver → Receiver

@@ -33,7 +33,13 @@ is_covered s = is_none s.outstanding
 
 -- a sender that has sent nothing; its counts begin at the start
 abbrev pub opening : Count → Sender
-opening start = record { state = Opening; sent = start; outstanding = none; pinging = false; commanded = false }
+opening start = record {
+  state = Opening;
+  sent = start;
+  outstanding = none;
+  pinging = false;
+  commanded = false;
+}
 
 -- a sender may send a packet of this wire size
 abbrev pub MaySend : Flow → Sender → ℕ → Type 0
@@ -55,7 +61,10 @@ next_number s = s.sent.packets % 2 ^ 16
 
 -- a packet of this wire size is sent
 abbrev pub sends : ℕ → Sender → Sender
-sends wire s = record s { sent = plus s.sent (one_of wire); outstanding = plus s.outstanding (one_of wire) }
+sends wire s = record s {
+  sent = plus s.sent (one_of wire);
+  outstanding = plus s.outstanding (one_of wire);
+}
 
 -- the state in which a command is sent; another code is never sent
 abbrev pub state_of : CmdOp → Option OutState

@@ -1,8 +1,10 @@
-ghost use Rattle.std.specs.Prelude.{◌≡◌, ◌≤◌, IsTrue};
+ghost use Rattle.std.specs.Prelude.{◌≡◌, ◌↔◌, ◌≤◌, IsTrue};
 ghost use Rattle.rf_base.specs.Kept.{Tells, Follows};
-ghost use Rattle.stream_endpoint.specs.declared.count.Count.{Count};
-ghost use Rattle.stream_endpoint.specs.Receiver.{expected, arrival, arrives, FindsRoom, notice_after, takes, obeys, is_due, is_due_by, reports, transferred};
-ghost use Rattle.stream_endpoint.specs.InEnd.{kept, receiving, on_receiver, counts_of, Means, status_of};
+ghost use Rattle.chdr_words.specs.Status.{FitsStatus};
+ghost use Rattle.stream_endpoint.specs.Counts.{count};
+ghost use Rattle.stream_endpoint.specs.Flow.{IsValid};
+ghost use Rattle.stream_endpoint.specs.Receiver.{arrives, FindsRoom, takes, is_due, reports};
+ghost use Rattle.stream_endpoint.specs.InEnd.{kept, receiving, on_receiver, arrival_of, counts_of, after_command, Obeys, status_of};
 
 use crate::{Arrived, Count, Flow, Gap, Notice};
 use chdr_words::{CmdOp, Command, Epid, Status, StatusCode};
@@ -33,7 +35,17 @@ impl Model for InEnd {
 
     ghost Value = { Receiving };
 
-    ghost view = { λ e. record { me = e.me; flow = e.flow; receiver = record { broken = e.broken; reached = e.reached; buffered = e.buffered; frequency = e.frequency; notice = e.notice } } };
+    ghost view = { λ e. record {
+      me = e.me;
+      flow = e.flow;
+      receiver = record {
+        broken = e.broken;
+        reached = e.reached;
+        buffered = e.buffered;
+        frequency = e.frequency;
+        notice = e.notice;
+      };
+    } };
 
     ghost invariant = { λ e. e.reached.packets < 2 ^ 40 };
 }
@@ -41,7 +53,7 @@ impl Model for InEnd {
 impl InEnd {
     /// An end that has received nothing. Its counts begin at the start, modulo 2^40 and 2^64.
     pub fn new(me: Epid, flow: &Flow, start_packets: u64, start_bytes: u64) -> InEnd
-        ensures { result ≡ kept (receiving me flow.now (record { packets = start_packets; bytes = start_bytes })) }
+        ensures { result ≡ kept (receiving me flow.now (count start_packets start_bytes)) }
     {
         let start = Count {
             packets: start_packets,
@@ -58,12 +70,23 @@ impl InEnd {
         }
     }
 
+    /// Whether a packet of this number and wire size may arrive: where it is kept, it finds room.
+    ///
+    /// Rule: docs/streams.md, "Credit".
+    pub fn finds_room(&self, seq: u16, wire: u32) -> bool
+        ensures { IsTrue result ↔ FindsRoom self.now.flow self.now.receiver seq wire }
+    {
+        self.broken.is_some()
+            || seq != (self.reached.packets % 65536) as u16
+            || self.flow.has_room(self.buffered, wire)
+    }
+
     /// Takes in a packet of this number and wire size.
     ///
     /// Rule: docs/streams.md, "The receiver".
     pub fn arrive(&mut self, seq: u16, wire: u32) -> Arrived
         requires { FindsRoom self.old.flow self.old.receiver seq wire }
-        ensures tells { Tells kept self.old result (λ end. arrival end.receiver.broken (expected end.receiver) seq) }
+        ensures tells { Tells kept self.old result (arrival_of seq) }
         ensures follows { Follows kept self.old self.new (on_receiver (arrives seq wire)) }
     {
         if self.broken.is_some() {
@@ -88,7 +111,7 @@ impl InEnd {
     pub fn taken(&mut self, packets: u32, bytes: u64)
         requires packets_in { packets ≤ self.old.receiver.buffered.packets }
         requires bytes_in { bytes ≤ self.old.receiver.buffered.bytes }
-        ensures { Follows kept self.old self.new (on_receiver (takes (record { packets = packets; bytes = bytes }))) }
+        ensures { Follows kept self.old self.new (on_receiver (takes (count packets bytes))) }
     {
         self.buffered.packets -= packets as u64;
         self.buffered.bytes -= bytes;
@@ -104,8 +127,8 @@ impl InEnd {
     /// The totals of a RESYNC stand for any whole counts that they spell.
     /// Rule: docs/streams.md, "The receiver".
     pub fn command(&mut self, c: &Command)
-        ensures here { self.new ≡ kept (on_receiver (obeys c.now.op (counts_of c.now)) self.old) }
-        ensures follows { (told : Count) → Means c.now told → Follows kept self.old self.new (on_receiver (obeys c.now.op told)) }
+        ensures here { self.new ≡ kept (after_command c.now (counts_of c.now) self.old) }
+        ensures follows { Obeys c.now self.old self.new }
     {
         let told = Count {
             packets: c.packets,
@@ -141,6 +164,7 @@ impl InEnd {
     pub fn report(&mut self) -> Status
         requires { IsTrue (is_due self.old.receiver) }
         ensures tells { Tells kept self.old result status_of }
+        ensures fits { IsValid self.old.flow → FitsStatus result }
         ensures follows { Follows kept self.old self.new (on_receiver reports) }
     {
         self.notice = Notice::Since(Count::none());
@@ -159,5 +183,19 @@ impl InEnd {
             info,
             buffer: 0,
         }
+    }
+
+    /// What was kept and not taken, in packets and in bytes of wire size.
+    pub fn buffered(&self) -> Count
+        ensures { Tells kept self.now result (λ end. end.receiver.buffered) }
+    {
+        self.buffered
+    }
+
+    /// The gap of a broken end; a good end has none.
+    pub fn broken(&self) -> Option<Gap>
+        ensures { Tells kept self.now result (λ end. end.receiver.broken) }
+    {
+        self.broken
     }
 }

@@ -14,3 +14,6 @@ pub use flow::{Flow, Policy};
 pub use in_end::InEnd;
 pub use out_end::OutEnd;
 pub use state::{Arrived, Gap, Notice, OutState};
+
+#[cfg(test)]
+mod tests;

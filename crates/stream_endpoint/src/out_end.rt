@@ -1,8 +1,10 @@
 ghost use Rattle.std.specs.Prelude.{◌≡◌, ◌↔◌, IsTrue, Some};
 ghost use Rattle.rf_base.specs.Kept.{Tells, Follows};
+ghost use Rattle.chdr_words.specs.Command.{FitsCommand};
+ghost use Rattle.stream_endpoint.specs.Counts.{count};
 ghost use Rattle.stream_endpoint.specs.Flow.{IsValid};
-ghost use Rattle.stream_endpoint.specs.Sender.{MaySend, after_okay, after_gap, enters, may_send, next_number, is_covered, sends, hears, commands, state_of};
-ghost use Rattle.stream_endpoint.specs.OutEnd.{kept, sending, on_sender, told_by, command_of};
+ghost use Rattle.stream_endpoint.specs.Sender.{MaySend, enters, next_number, is_covered, sends, commands, state_of};
+ghost use Rattle.stream_endpoint.specs.OutEnd.{kept, sending, on_sender, on_okay, on_gap, may_send_of, after_status, command_of};
 
 use crate::{Count, Flow, OutState, Policy};
 use chdr_words::{CmdOp, Command, Epid, Status, StatusCode};
@@ -34,7 +36,18 @@ impl Model for OutEnd {
 
     ghost Value = { Sending };
 
-    ghost view = { λ e. record { me = e.me; flow = e.flow; policy = e.policy; sender = record { state = e.state; sent = e.sent; outstanding = e.outstanding; pinging = e.pinging; commanded = e.commanded } } };
+    ghost view = { λ e. record {
+      me = e.me;
+      flow = e.flow;
+      policy = e.policy;
+      sender = record {
+        state = e.state;
+        sent = e.sent;
+        outstanding = e.outstanding;
+        pinging = e.pinging;
+        commanded = e.commanded;
+      };
+    } };
 
     ghost invariant = { λ e. e.sent.packets < 2 ^ 40 };
 }
@@ -49,7 +62,7 @@ impl OutEnd {
         policy: Policy,
     ) -> OutEnd
         requires { IsValid flow.now }
-        ensures { result ≡ kept (sending me flow.now policy (record { packets = start_packets; bytes = start_bytes })) }
+        ensures { result ≡ kept (sending me flow.now policy (count start_packets start_bytes)) }
     {
         let start = Count {
             packets: start_packets,
@@ -73,7 +86,7 @@ impl OutEnd {
     /// Rule: docs/streams.md, "Credit".
     pub fn may_send(&self, wire: u32) -> bool
         ensures credit { IsTrue result ↔ MaySend self.now.flow self.now.sender wire }
-        ensures tells { Tells kept self.now result (λ end. may_send end.flow end.sender wire) }
+        ensures tells { Tells kept self.now result (may_send_of wire) }
     {
         matches!(self.state, OutState::Running) && self.flow.has_room(self.outstanding, wire)
     }
@@ -98,7 +111,7 @@ impl OutEnd {
     /// A count stands for the last one before what was sent that is spelled so.
     /// Rule: docs/streams.md, "The sender".
     pub fn status(&mut self, s: &Status)
-        ensures { Follows kept self.old self.new (λ end. on_sender (hears end.policy s.now.code (told_by s.now)) end) }
+        ensures { Follows kept self.old self.new (after_status s.now) }
     {
         let told = Count {
             packets: s.got_packets,
@@ -116,7 +129,7 @@ impl OutEnd {
     }
 
     fn okay(&mut self, missed: bool)
-        ensures { self.new ≡ on_sender (after_okay self.old.sender.state self.old.policy missed) self.old }
+        ensures { self.new ≡ on_okay missed self.old }
     {
         match self.state {
             OutState::Opening | OutState::Resyncing => self.enter(OutState::Running),
@@ -130,7 +143,7 @@ impl OutEnd {
     }
 
     fn gap(&mut self)
-        ensures { self.new ≡ on_sender (after_gap self.old.sender.state self.old.policy) self.old }
+        ensures { self.new ≡ on_gap self.old }
     {
         match self.state {
             OutState::Running => self.enter(self.policy.fallen()),
@@ -145,6 +158,20 @@ impl OutEnd {
         self.commanded = false;
     }
 
+    /// Whether a command with this operation may be sent now: each belongs to one state.
+    ///
+    /// Rule: docs/streams.md, "The sender".
+    pub fn may_command(&self, op: CmdOp) -> bool
+        ensures { IsTrue result ↔ (state_of op ≡ Some self.now.sender.state) }
+    {
+        match op {
+            CmdOp::Init => matches!(self.state, OutState::Opening),
+            CmdOp::Ping => matches!(self.state, OutState::Running),
+            CmdOp::Resync => matches!(self.state, OutState::Resyncing),
+            CmdOp::Other(_) => false,
+        }
+    }
+
     /// The command to send, which from then on counts as sent.
     ///
     /// INIT tells the flow's frequency, RESYNC what was sent, modulo 2^40 packets and 2^64 bytes.
@@ -152,6 +179,7 @@ impl OutEnd {
     pub fn command(&mut self, op: CmdOp) -> Command
         requires { state_of op ≡ Some self.old.sender.state }
         ensures tells { Tells kept self.old result (command_of op) }
+        ensures fits { FitsCommand result }
         ensures follows { Follows kept self.old self.new (on_sender (commands op)) }
     {
         let counts = match op {
@@ -196,5 +224,12 @@ impl OutEnd {
         ensures { Tells kept self.now result (λ end. end.sender.commanded) }
     {
         self.commanded
+    }
+
+    /// Sent less known, in packets and in bytes of wire size.
+    pub fn outstanding(&self) -> Count
+        ensures { Tells kept self.now result (λ end. end.sender.outstanding) }
+    {
+        self.outstanding
     }
 }
