@@ -1,0 +1,14 @@
+pub mod PlaceLemmas
+pub mod StandLaws
+pub mod PresentLaws
+pub mod LawfulLaws
+pub mod Finds
+pub mod MayLemmas
+pub mod ReadyLemmas
+pub mod SizeLemmas
+pub mod RunLaws
+pub mod StartLemmas
+pub mod TrackedLemmas
+pub mod StepLemmas
+pub mod NetLemmas
+pub mod ChooseLemmas

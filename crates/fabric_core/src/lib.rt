@@ -1,0 +1,16 @@
+//! The machine: one event at a time, over links, streams and their two ends.
+#![tactic(auto)]
+
+mod event;
+mod laws;
+mod net;
+mod places;
+mod queue;
+mod standing;
+mod steps;
+mod tally;
+
+pub use event::{Event, Journal};
+pub use net::Net;
+pub use queue::LINK_ROOM;
+pub use tally::{StreamEnd, Tally};
