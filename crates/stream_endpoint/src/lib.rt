@@ -5,6 +5,7 @@ mod count;
 mod fault;
 mod flow;
 mod in_end;
+mod laws;
 mod out_end;
 mod state;
 
@@ -12,6 +13,7 @@ pub use count::Count;
 pub use fault::{Fault, Faults};
 pub use flow::{Flow, Policy};
 pub use in_end::InEnd;
+pub use laws::{a_receiving_end_stays_true, a_sending_end_stays_true};
 pub use out_end::OutEnd;
 pub use state::{Arrived, Gap, Notice, OutState};
 

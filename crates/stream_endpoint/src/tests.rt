@@ -1,6 +1,8 @@
-use crate::{Arrived, Count, Flow, Gap, InEnd, OutEnd, OutState, Policy};
+use crate::{Arrived, Count, Fault, Faults, Flow, Gap, InEnd, OutEnd, OutState, Policy};
 use chdr_words::{CmdOp, Command, Epid, Status, StatusCode, Word};
+use rf_base::Copyable;
 use std::process::Abort;
+use std::test::Fail;
 
 /// 96 bytes and 4 packets, with a status after each packet of 24 bytes.
 const FLOW: Flow = Flow {
@@ -127,7 +129,7 @@ fn a_resync_subtracts_what_is_buffered(rt: HostRuntime) {
 }
 
 #[test]
-fn the_second_of_the_wrapped_counts_is_spelled_from_0(rt: HostRuntime) {
+fn counts_and_numbers_wrap(rt: HostRuntime) {
     let mut out = sender((1 << 40) - 1, u64::MAX - 15, Policy::Auto);
     let mut into = receiver((1 << 40) - 1, u64::MAX - 15);
     ask(&rt, &mut out, &mut into, CmdOp::Init);
@@ -327,4 +329,13 @@ fn no_message_makes_a_call_fault(rt: HostRuntime) {
             x = next(next(x));
         }
     }
+}
+
+#[test]
+fn faults_are_copied(rt: HostRuntime) -> Result<(), Fail> {
+    let mut faults = Faults::new(rt.alloc());
+    faults.push(Fault::Samples(0, 2))?;
+    faults.push(Fault::Answer(1))?;
+    assert_eq!(rt; faults.copy()?, faults);
+    Ok(())
 }
