@@ -88,7 +88,7 @@ impl OutEnd {
         ensures credit { IsTrue result ↔ MaySend self.now.flow self.now.sender wire }
         ensures tells { Tells kept self.now result (may_send_of wire) }
     {
-        matches!(self.state, OutState::Running) && self.flow.has_room(self.outstanding, wire)
+        self.state == OutState::Running && self.flow.has_room(self.outstanding, wire)
     }
 
     /// Counts a packet of `wire` bytes as sent, and answers its number, modulo 2^16.
@@ -165,9 +165,9 @@ impl OutEnd {
         ensures { IsTrue result ↔ (state_of op ≡ Some self.now.sender.state) }
     {
         match op {
-            CmdOp::Init => matches!(self.state, OutState::Opening),
-            CmdOp::Ping => matches!(self.state, OutState::Running),
-            CmdOp::Resync => matches!(self.state, OutState::Resyncing),
+            CmdOp::Init => self.state == OutState::Opening,
+            CmdOp::Ping => self.state == OutState::Running,
+            CmdOp::Resync => self.state == OutState::Resyncing,
             CmdOp::Other(_) => false,
         }
     }

@@ -55,7 +55,7 @@ impl Notice {
     pub fn is_due(self) -> bool
         ensures { result ≡ is_due_by self }
     {
-        matches!(self, Notice::Due)
+        self == Notice::Due
     }
 
     /// The notice once so much more was taken under this frequency.
