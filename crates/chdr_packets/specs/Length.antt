@@ -1,15 +1,10 @@
 -- The size of a packet's canonical spelling, in bytes.
-use Rattle.std.specs.Prelude.{ℕ, ◌+◌, ◌*◌, length, Option, Some, None}
+use Rattle.std.specs.Prelude.{ℕ, ◌+◌, ◌*◌, length}
 use Rattle.std.specs.List.{sum_by}
-use Rattle.chdr_words.specs.Wire.{wire_size_of}
+use Rattle.chdr_words.specs.Wire.{time_bytes, wire_size_of}
 use Rattle.chdr_packets.specs.declared.packet.Packet.{Packet}
 use Rattle.chdr_packets.specs.declared.packet.Body.{Body}
 use Rattle.chdr_packets.specs.declared.packet.Body.TheVariants.{Samples, Status, Command, Control, Management}
-
--- a time takes one word where it is told
-abbrev pub time_bytes : Option ℕ → ℕ
-time_bytes None = 0
-time_bytes (Some time) = 8
 
 -- a body with its timestamp; control is rounded up to words
 abbrev pub body_length : Body → ℕ

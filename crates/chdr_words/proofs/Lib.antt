@@ -1,2 +1,6 @@
 pub mod FieldLemmas
 pub mod WordLemmas
+pub mod ControlLemmas
+pub mod ControlWriting
+pub mod ManagementLemmas
+pub mod ManagementReading

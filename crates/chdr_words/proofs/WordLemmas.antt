@@ -1,9 +1,11 @@
 -- Words as bytes.
-use Rattle.std.proofs.Common.{add-zero, ◌≡◌, ℕ, ◌+◌, ◌*◌, ◌^◌, ◌<◌, List, get_or, refl}
-use Rattle.std.specs.Int.{w64, from_le_bytes, to_le_bytes}
-use Rattle.std.proofs.lemmas.Nat.{from_le_bytes-to_le_bytes_8}
-use Rattle.std.proofs.lemmas.List.{get_or-drop}
-use Rattle.chdr_words.specs.Field.{word_at, half_at}
+use Rattle.std.proofs.Common.{◌∙◌, ℕ, zero, suc, add-one, add-zero, ◌≡◌, ◌+◌, ◌*◌, ◌^◌, ◌<◌, List, [], ◌∷◌, ◌++◌, length, get_or, refl, sym, ap, append_assoc, arith}
+use Rattle.std.specs.Int.{w32, w64, from_le_bytes, to_le_bytes}
+use Rattle.std.proofs.lemmas.Nat.{from_le_bytes-to_le_bytes_4, from_le_bytes-to_le_bytes_8}
+use Rattle.std.specs.List.{flat_map, AllByRecursion}
+use Rattle.std.proofs.lemmas.List.{get_or-drop, length-append, drop_at}
+use Rattle.std.proofs.lemmas.List.Concat.{flat_map-cons}
+use Rattle.chdr_words.specs.Field.{word_at, half_at, each_at}
 
 -- a word's bytes spell it
 pub word_of : (bytes : List ℕ) (a : ℕ) → a < 2 ^ 64 → bytes ≡ to_le_bytes w64 a → from_le_bytes w64 bytes ≡ a
@@ -20,3 +22,70 @@ pub half_at-is : (bytes : List ℕ) (at : ℕ) → half_at bytes at ≡
     get_or bytes at 0 + get_or bytes (at + 1) 0 * 256 + get_or bytes (at + 2) 0 * 65536 + get_or bytes (at + 3) 0 * 256 ^ 3
 unfolding half_at
 half_at-is bytes at = simp (get_or-drop, add-zero) refl
+
+-- one word more
+pub each_at-more : (read : List ℕ → ℕ → ℕ) (size : ℕ) (bytes : List ℕ) (at k : ℕ)
+    → each_at read size bytes at (k + 1) ≡ each_at read size bytes at k ++ read bytes (at + size * k) ∷ []
+unfolding each_at
+each_at-more read size bytes at k = rw add-one refl
+
+pub each_at-none : (read : List ℕ → ℕ → ℕ) (size : ℕ) (bytes : List ℕ) (at : ℕ) → each_at read size bytes at 0 ≡ []
+unfolding each_at
+each_at-none read size bytes at = refl
+
+pub length-each_at : (read : List ℕ → ℕ → ℕ) (size : ℕ) (bytes : List ℕ) (at k : ℕ) → length (each_at read size bytes at k) ≡ k
+unfolding each_at
+length-each_at read size bytes at zero = refl
+length-each_at read size bytes at (suc k) =
+    length-append (each_at read size bytes at k) (read bytes (at + size * k) ∷ []) ∙ rw (length-each_at read size bytes at k) (omega arith)
+
+pub ruleset more = (each_at-more, each_at-none, length-each_at)
+
+-- the first word stands in front
+pub each_at-cons : (read : List ℕ → ℕ → ℕ) (size : ℕ) (bytes : List ℕ) (at k : ℕ)
+    → each_at read size bytes at (suc k) ≡ read bytes at ∷ each_at read size bytes (at + size) k
+unfolding each_at
+each_at-cons read size bytes at zero = let e : at + size * 0 ≡ at = omega arith in rw e refl
+each_at-cons read size bytes at (suc k) =
+    let e : at + size * suc k ≡ at + size + size * k = omega arith in
+    rw (each_at-cons read size bytes at k, e) refl
+
+-- numbers below the limit are written as so many bytes, and read back wherever they stand
+pub record IsCode (encode : ℕ → List ℕ) (read : List ℕ → ℕ → ℕ) (size limit : ℕ) : Type 0 where
+  pub len : (v : ℕ) → length (encode v) ≡ size
+  pub back : (front rest : List ℕ) (v : ℕ) → v < limit → read (front ++ (encode v ++ rest)) (length front) ≡ v
+
+pub word_code : IsCode (to_le_bytes w64) word_at 8 (2 ^ 64)
+unfolding word_at
+word_code = record {
+  len = λ v. refl;
+  back = λ front rest v wide. rw (drop_at front (to_le_bytes w64 v ++ rest) (length front) refl) (from_le_bytes-to_le_bytes_8 v wide);
+}
+
+pub half_code : IsCode (to_le_bytes w32) half_at 4 (2 ^ 32)
+unfolding half_at
+half_code = record {
+  len = λ v. refl;
+  back = λ front rest v wide. rw (drop_at front (to_le_bytes w32 v ++ rest) (length front) refl) (from_le_bytes-to_le_bytes_4 v wide);
+}
+
+abbrev pub Below : ℕ → List ℕ → Type 0
+Below limit words = AllByRecursion (λ word. word < limit) words
+
+-- words that were written are read back
+pub each_at-written : (encode : ℕ → List ℕ) (read : List ℕ → ℕ → ℕ) (size limit : ℕ) (code : IsCode encode read size limit)
+    (words front rest : List ℕ) → Below limit words
+    → each_at read size (front ++ (flat_map encode words ++ rest)) (length front) (length words) ≡ words
+each_at-written encode read size limit code [] front rest below = each_at-none read size (front ++ (flat_map encode [] ++ rest)) (length front)
+each_at-written encode read size limit code (w ∷ words) front rest below =
+    let bytes : List ℕ = front ++ (flat_map encode (w ∷ words) ++ rest) in
+    let more : List ℕ = flat_map encode words ++ rest in
+    let one : bytes ≡ front ++ (encode w ++ more) =
+    ap (λ (x : List ℕ). front ++ (x ++ rest)) (flat_map-cons encode w words) ∙ ap (λ (x : List ℕ). front ++ x) (append_assoc (encode w) (flat_map encode words) rest) in
+    let two : bytes ≡ (front ++ encode w) ++ more = one ∙ sym (append_assoc front (encode w) more) in
+    let at : length front + size ≡ length (front ++ encode w) = rw (length-append front (encode w), code.len w) refl in
+    let head : read bytes (length front) ≡ w = rw one (code.back front more w below.0) in
+    let tail : each_at read size bytes (length front + size) (length words) ≡ words =
+    rw (at, two) (each_at-written encode read size limit code words (front ++ encode w) rest below.1) in
+    each_at-cons read size bytes (length front) (length words) ∙ ap (λ (x : ℕ). x ∷ each_at read size bytes (length front + size) (length words)) head
+    ∙ ap (λ (x : List ℕ). w ∷ x) tail

@@ -1,6 +1,7 @@
 -- Bit fields of a word of 64 bits, and a word's place among bytes.
 use Rattle.std.specs.Prelude.{ℕ, zero, suc, ◌+◌, ◌-◌, ◌*◌, ◌/◌, ◌%◌, ◌^◌, List, [], ◌∷◌, ◌++◌, drop}
-use Rattle.std.specs.Int.{w32, w64, from_le_bytes}
+use Rattle.std.specs.List.{flat_map}
+use Rattle.std.specs.Int.{w32, w64, from_le_bytes, to_le_bytes}
 
 -- the number that the bits hi down to lo of a word spell
 abbrev pub field : ℕ → ℕ → ℕ → ℕ
@@ -18,12 +19,23 @@ word_at bytes at = from_le_bytes w64 (drop at bytes)
 unfoldable pub half_at : List ℕ → ℕ → ℕ
 half_at bytes at = from_le_bytes w32 (drop at bytes)
 
+-- what read finds at count places from one on, each size bytes behind the one before
+unfoldable pub each_at : (List ℕ → ℕ → ℕ) → ℕ → List ℕ → ℕ → ℕ → List ℕ
+each_at read size bytes at zero = []
+each_at read size bytes at (suc count) = each_at read size bytes at count ++ read bytes (at + size * count) ∷ []
+
 -- the count words of 64 bits from a place on, in order
-unfoldable pub words_at : List ℕ → ℕ → ℕ → List ℕ
-words_at bytes at zero = []
-words_at bytes at (suc count) = words_at bytes at count ++ word_at bytes (at + 8 * count) ∷ []
+abbrev pub words_at : List ℕ → ℕ → ℕ → List ℕ
+words_at = each_at word_at 8
 
 -- the count words of 32 bits from a place on, in order
-unfoldable pub halves_at : List ℕ → ℕ → ℕ → List ℕ
-halves_at bytes at zero = []
-halves_at bytes at (suc count) = halves_at bytes at count ++ half_at bytes (at + 4 * count) ∷ []
+abbrev pub halves_at : List ℕ → ℕ → ℕ → List ℕ
+halves_at = each_at half_at 4
+
+-- words of 64 bits as bytes
+abbrev pub words_bytes : List ℕ → List ℕ
+words_bytes words = flat_map (to_le_bytes w64) words
+
+-- words of 32 bits as bytes
+abbrev pub halves_bytes : List ℕ → List ℕ
+halves_bytes words = flat_map (to_le_bytes w32) words

@@ -7,3 +7,4 @@ pub mod Status
 pub mod Command
 pub mod Control
 pub mod Management
+pub mod Reads

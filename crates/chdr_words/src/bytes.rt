@@ -1,6 +1,7 @@
 //! Words among bytes, least byte first.
-ghost use Rattle.std.specs.Prelude.{◌≡◌, ◌+◌, ◌≤◌, length};
-ghost use Rattle.chdr_words.specs.Field.{half_at, word_at};
+ghost use Rattle.std.specs.Prelude.{◌≡◌, ◌+◌, ◌*◌, ◌≤◌, ◌<◌, ◌^◌, ◌++◌, length, take, All};
+ghost use Rattle.std.specs.Int.{w32, w64, to_le_bytes};
+ghost use Rattle.chdr_words.specs.Field.{half_at, halves_bytes, word_at};
 
 /// The word of 64 bits at a place.
 pub fn word_at(bytes: &[u8], at: usize) -> u64
@@ -56,4 +57,31 @@ pub fn four_words(a: u64, b: u64, c: u64, d: u64) -> [u8; 32]
         b[7], c[0], c[1], c[2], c[3], c[4], c[5], c[6], c[7], d[0], d[1], d[2], d[3], d[4], d[5],
         d[6], d[7],
     ]
+}
+
+/// Writes a word of 64 bits behind the first `at` bytes, which stay.
+pub fn put_word(out: &mut [u8], at: usize, word: u64)
+    requires { at + 8 ≤ length out.old }
+    ensures { take (at + 8) out.new ≡ take at out.old ++ to_le_bytes w64 word }
+{
+    out[at..at + 8].copy_from_slice(&word.to_le_bytes());
+}
+
+/// Writes a word of 32 bits behind the first `at` bytes, which stay.
+pub fn put_half(out: &mut [u8], at: usize, word: u32)
+    requires { at + 4 ≤ length out.old }
+    ensures { take (at + 4) out.new ≡ take at out.old ++ to_le_bytes w32 word }
+{
+    out[at..at + 4].copy_from_slice(&word.to_le_bytes());
+}
+
+/// Writes words of 32 bits behind the first `at` bytes, which stay.
+pub fn put_halves(out: &mut [u8], at: usize, words: &[u32])
+    requires { at + 4 * length words.now ≤ length out.old }
+    ensures bytes { take (at + 4 * length words.now) out.new ≡ take at out.old ++ halves_bytes words.now }
+    ensures ranged { All (λ word. word < 2 ^ 32) words.now }
+{
+    for (k, word) in words.iter().enumerate() {
+        put_half(out, at + 4 * k, *word);
+    }
 }

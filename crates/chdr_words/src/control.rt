@@ -1,4 +1,10 @@
-use crate::{Epid, Words15};
+ghost use Rattle.std.specs.Prelude.{◌≡◌, ◌<◌, ◌≤◌, ◌^◌, ◌+◌, ◌*◌, ◌==◌, if◌then◌else◌, take, length, All, IfOk, IfSome, IsTrue};
+ghost use Rattle.chdr_words.specs.Control.{FitsControl, FitsCtrlOp, SpellsControl, control_bytes, control_head, control_op, control_plain, control_read, control_size, ctrl_op_number, ctrl_op_of, ctrl_status_number, ctrl_status_of};
+ghost use Rattle.chdr_words.specs.Field.{field, halves_at, word_at};
+ghost use Rattle.chdr_words.specs.Wire.{time_bytes, wire_size_of};
+
+use crate::bytes::{half_at, put_half, put_halves, put_word, word_at};
+use crate::{Epid, MsgFault, Words15};
 use rf_base::{Copyable, Memory};
 
 #[derive(Clone, Copy, Debug, PartialEq, Eq)]
@@ -59,4 +65,187 @@ impl Copyable for Control {
             words: self.words.copy()?,
         })
     }
+}
+
+fn status_of(number: u8) -> CtrlStatus
+    ensures { result ≡ ctrl_status_of number }
+{
+    match number {
+        0 => CtrlStatus::Okay,
+        1 => CtrlStatus::CmdErr,
+        2 => CtrlStatus::TsErr,
+        _ => CtrlStatus::Warning,
+    }
+}
+
+fn status_number(status: CtrlStatus) -> u32
+    ensures number { result ≡ ctrl_status_number status }
+    ensures below { result < 2 ^ 2 }
+{
+    match status {
+        CtrlStatus::Okay => 0,
+        CtrlStatus::CmdErr => 1,
+        CtrlStatus::TsErr => 2,
+        CtrlStatus::Warning => 3,
+    }
+}
+
+fn op_of(number: u8) -> CtrlOp
+    ensures { result ≡ ctrl_op_of number }
+{
+    match number {
+        0 => CtrlOp::Sleep,
+        1 => CtrlOp::Write,
+        2 => CtrlOp::Read,
+        3 => CtrlOp::ReadWrite,
+        4 => CtrlOp::BlockWrite,
+        5 => CtrlOp::BlockRead,
+        6 => CtrlOp::Poll,
+        7 => CtrlOp::Other(7),
+        8 => CtrlOp::Other(8),
+        9 => CtrlOp::Other(9),
+        user => CtrlOp::User(user),
+    }
+}
+
+fn op_number(op: CtrlOp) -> u32
+    requires { FitsCtrlOp op }
+    ensures number { result ≡ ctrl_op_number op }
+    ensures below { result < 2 ^ 4 }
+{
+    match op {
+        CtrlOp::Sleep => 0,
+        CtrlOp::Write => 1,
+        CtrlOp::Read => 2,
+        CtrlOp::ReadWrite => 3,
+        CtrlOp::BlockWrite => 4,
+        CtrlOp::BlockRead => 5,
+        CtrlOp::Poll => 6,
+        CtrlOp::Other(code) => code as u32,
+        CtrlOp::User(code) => code as u32,
+    }
+}
+
+fn time_of(bytes: &[u8], first: u64) -> Option<u64>
+    requires { field first 30 30 ≡ 1 → 16 ≤ length bytes.now }
+    ensures { result ≡ (if field first 30 30 == 1 then Some (word_at bytes.now 8) else None) }
+{
+    if first / (1 << 30) % 2 == 1 {
+        Some(word_at(bytes, 8))
+    } else {
+        None
+    }
+}
+
+#[tactic(auto, using(crate::proofs::WordLemmas::more))]
+fn words_of(bytes: &[u8], at: usize, count: usize) -> Words15
+    requires many { count ≤ 15 }
+    requires within { at + 4 * count ≤ length bytes.now }
+    ensures { result ≡ halves_at bytes.now at count }
+{
+    let mut words = Words15::new();
+    for k in 0..count {
+        words.push(half_at(bytes, at + 4 * k));
+    }
+    words
+}
+
+fn head_of(v: &Control) -> u64
+    requires { FitsControl v.now }
+    ensures word { result ≡ control_head v.now }
+    ensures src { v.now.src.0 < 2 ^ 16 }
+{
+    let ack = if v.ack { 1 << 31 } else { 0 };
+    let timed = match v.time {
+        None => 0,
+        Some(_) => 1 << 30,
+    };
+    let flags = v.src.0 as u64 * (1 << 32) + ack + timed;
+    let counts = v.seq as u64 * (1 << 24) + v.words.len() as u64 * (1 << 20);
+    let ports = v.src_port as u64 * (1 << 10) + v.dst_port as u64;
+    flags + counts + ports
+}
+
+fn op_word(v: &Control) -> u32
+    requires { FitsControl v.now }
+    ensures { result ≡ control_op v.now }
+{
+    let codes = status_number(v.status) * (1 << 30) + op_number(v.op) * (1 << 24);
+    codes + v.enables as u32 * (1 << 20) + v.addr
+}
+
+fn spell(v: &Control, out: &mut [u8; 80]) -> usize
+    requires { FitsControl v.now }
+    ensures size { result ≡ wire_size_of (control_size (time_bytes v.now.time) (length v.now.words)) }
+    ensures bytes { take result out.new ≡ control_bytes v.now }
+    ensures src { v.now.src.0 < 2 ^ 16 }
+    ensures time { IfSome v.now.time (λ time. time < 2 ^ 64) }
+    ensures words { All (λ word. word < 2 ^ 32) v.now.words }
+{
+    put_word(out, 0, head_of(v));
+    let at = match v.time {
+        None => 8,
+        Some(time) => {
+            put_word(out, 8, time);
+            16
+        }
+    };
+    put_half(out, at, op_word(v));
+    let words = v.words.as_slice();
+    put_halves(out, at + 4, words);
+    let size = at + 4 + 4 * words.len();
+    if size % 8 == 0 {
+        size
+    } else {
+        put_half(out, size, 0);
+        size + 4
+    }
+}
+
+/// Writes the canonical spelling, whose size is rounded up to words, and answers its bytes.
+pub fn encode_control(v: &Control, out: &mut [u8; 80]) -> usize
+    requires { FitsControl v.now }
+    ensures size { result ≡ wire_size_of (control_size (time_bytes v.now.time) (length v.now.words)) }
+    ensures spells { SpellsControl v.now (take result out.new) }
+    ensures plain { IsTrue (control_plain (take result out.new)) }
+{
+    spell(v, out)
+}
+
+fn read(b: &[u8]) -> Result<Control, MsgFault>
+    ensures { result ≡ control_read b.now }
+{
+    if b.len() < 12 {
+        return Err(MsgFault::BadControlLength);
+    }
+    let first = word_at(b, 0);
+    let time = 8 * (first / (1 << 30) % 2) as usize;
+    let count = (first / (1 << 20) % (1 << 4)) as usize;
+    let size = 12 + time + 4 * count;
+    if b.len() != size && b.len() != (size + 7) / 8 * 8 {
+        return Err(MsgFault::BadControlLength);
+    }
+    let op = half_at(b, 8 + time);
+    Ok(Control {
+        src: Epid((first / (1 << 32) % (1 << 16)) as u16),
+        ack: first / (1 << 31) % 2 == 1,
+        time: time_of(b, first),
+        seq: (first / (1 << 24) % (1 << 6)) as u8,
+        src_port: (first / (1 << 10) % (1 << 10)) as u16,
+        dst_port: (first % (1 << 10)) as u16,
+        status: status_of((op / (1 << 30)) as u8),
+        op: op_of((op / (1 << 24) % (1 << 4)) as u8),
+        enables: (op / (1 << 20) % (1 << 4)) as u8,
+        addr: op % (1 << 20),
+        words: words_of(b, 12 + time, count),
+    })
+}
+
+/// The control request or acknowledgement that the payload spells, at either size.
+pub fn decode_control(b: &[u8]) -> Result<Control, MsgFault>
+    ensures reads { IfOk result (λ c. SpellsControl c b.now) }
+    ensures accepts { (c : Control) → SpellsControl c b.now → result ≡ Ok c }
+    ensures exact { result ≡ control_read b.now }
+{
+    read(b)
 }

@@ -1,4 +1,7 @@
-use std::alloc::AllocError;
+ghost use Rattle.std.specs.Prelude.{◌≡◌};
+ghost use Rattle.chdr_words.specs.declared.fault.MsgFault.TheVariants as faults;
+
+use rf_base::Memory;
 
 /// Why a payload is no spelling of its kind.
 #[derive(Clone, Copy, Debug, PartialEq, Eq)]
@@ -9,4 +12,12 @@ pub enum MsgFault {
     BadManagement,
     /// Want of memory; only a management payload takes any.
     Memory,
+}
+
+impl From<Memory> for MsgFault {
+    ghost from_gives = { λ _ e. e ≡ faults.Memory };
+
+    fn from(_: Memory) -> MsgFault {
+        MsgFault::Memory
+    }
 }

@@ -17,12 +17,12 @@ mod words15;
 
 pub use bytes::{half_at, word_at};
 pub use command::{CmdOp, Command, decode_command, encode_command};
-pub use control::{Control, CtrlOp, CtrlStatus};
+pub use control::{Control, CtrlOp, CtrlStatus, decode_control, encode_control};
 pub use epid::Epid;
 pub use fault::MsgFault;
 pub use header::{Header, PktType};
 pub use lists::{Bytes, Bytes32, EpidList, Hop, HopList, WordList};
-pub use management::{Management, MgmtOp};
+pub use management::{Management, MgmtOp, decode_management, encode_management, is_management};
 pub use node_info::{Cfg, NodeInfo};
 pub use status::{Status, StatusCode, decode_status, encode_status};
 pub use wire::wire_size;
