@@ -1,0 +1,15 @@
+pub mod Chains
+pub mod Numbers
+pub mod Places
+pub mod TalkForward
+pub mod TalkBack
+pub mod TalkHear
+pub mod Marks
+pub mod StepsAhead
+pub mod StepsSender
+pub mod StepsBack
+pub mod StepsHear
+pub mod Steps
+pub mod Consequences
+pub mod Worked
+pub mod Ending

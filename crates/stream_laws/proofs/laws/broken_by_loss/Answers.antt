@@ -1,0 +1,5 @@
+use Rattle.stream_laws.proofs.laws.broken_by_loss.Goals as goal
+use Rattle.stream_laws.proofs.Consequences.{broken_by_loss}
+
+pub returns : goal.returns
+returns g c = record { law = broken_by_loss }

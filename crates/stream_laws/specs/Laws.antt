@@ -1,0 +1,111 @@
+-- The laws of a stream: what holds in each state that a legal run leaves.
+use Rattle.std.specs.Prelude.{◌≡◌, ℕ, ◌+◌, ◌-◌, ◌<◌, ◌≤◌, Some, List, ◌∷◌, length, take, drop}
+use mathlib.Core.List.{IsPrefix}
+use Rattle.chdr_words.specs.declared.command.CmdOp.TheVariants.{Resync}
+use Rattle.stream_endpoint.specs.declared.count.Count.{Count}
+use Rattle.stream_endpoint.specs.declared.state.Gap.{Gap}
+use Rattle.stream_endpoint.specs.Counts.{less, spelled, spelled_less}
+use Rattle.stream_endpoint.specs.Flow.{IsValid}
+use Rattle.stream_endpoint.specs.Receiver.{FindsRoom, expected}
+use Rattle.stream_endpoint.specs.Sender.{known}
+use Rattle.stream_laws.specs.Machine.{Entry, Data, Command, Load, State, Terms, Told, count_of, number_at, opens}
+use Rattle.stream_laws.specs.Acts.{Act, Allowed, Leads, after}
+use Rattle.stream_laws.specs.Chains.{IsLost}
+use Rattle.stream_laws.specs.Epochs.{EachEpoch, begun, reach}
+
+-- a legal run of a stream with a valid flow leads to this state
+pub record IsRun {A : Type 0} (terms : Terms) (st : State A) : Type 0 where
+  pub valid : IsValid terms.flow
+  pub run : Leads terms (opens terms) st
+
+-- something holds wherever a legal run leads
+abbrev pub Always : {A : Type 0} → (Terms → State A → Type 0) → Type 0
+Always {A} Here = (terms : Terms) (st : State A) → IsRun terms st → Here terms st
+
+-- the part of a list from one place up to another
+abbrev pub piece : {X : Type 0} → ℕ → ℕ → List X → List X
+piece from upto xs = take (upto - from) (drop from xs)
+
+-- In each epoch what was given begins what was sent.
+abbrev pub IsEpochwise : {A : Type 0} → Terms → State A → Type 0
+IsEpochwise terms st = EachEpoch
+    (λ from here. IsPrefix (piece from.given here.given st.given) (piece from.sent here.sent st.sent))
+    st.cuts (reach st.sent st.given)
+
+-- The cuts stand in order, so that the pieces between them make up all that was sent and given.
+abbrev pub IsCut : {A : Type 0} → Terms → State A → Type 0
+IsCut terms st = EachEpoch (λ from here. (from.sent ≤ here.sent) × (from.given ≤ here.given)) st.cuts (reach st.sent st.given)
+
+-- No more is taken than was given.
+abbrev pub IsTakenOfGiven : {A : Type 0} → Terms → State A → Type 0
+IsTakenOfGiven terms st = st.taken ≤ length st.given
+
+-- What was sent and isn't known to be taken is within the capacity.
+pub record IsWithin {A : Type 0} (terms : Terms) (st : State A) : Type 0 where
+  pub sent_packets : st.sender.sent.packets ≡ terms.start.packets + length st.sent
+  pub sent_bytes : st.sender.sent.bytes ≡ terms.start.bytes + (count_of st.sent).bytes
+  pub packets : st.sender.sent.packets ≤ (known st.sender).packets + terms.flow.cap_packets
+  pub bytes : st.sender.sent.bytes ≤ (known st.sender).bytes + terms.flow.cap_bytes
+
+-- A packet that arrives and is kept finds room.
+abbrev pub HasRoomAhead : {A : Type 0} → Terms → State A → Type 0
+HasRoomAhead {A} terms st = (place : ℕ) (load : Load A) (rest : List (Entry A)) → st.forward ≡ Data place load ∷ rest
+    → FindsRoom terms.flow st.receiver (number_at terms place) load.wire
+
+-- the first place of the present epoch whose packet was lost
+pub record IsGap {A : Type 0} (st : State A) (place : ℕ) : Type 0 where
+  pub here : (begun st.cuts).sent ≤ place
+  pub sent : place < length st.sent
+  pub lost : IsLost st.lost place
+  pub first : (k : ℕ) → IsLost st.lost k → (begun st.cuts).sent ≤ k → place ≤ k
+
+-- A gap's two numbers: that of the first packet of the epoch that was lost, and that of the first later one that wasn't.
+pub record IsTold {A : Type 0} (terms : Terms) (st : State A) (gap : Gap) : Type 0 where
+  pub place : ℕ
+  pub later : ℕ
+  pub is_gap : IsGap st place
+  pub expected : gap.expected ≡ number_at terms place
+  pub behind : place < later
+  pub sent : later < length st.sent
+  pub not_lost : IsLost st.lost later → ⊥
+  pub between : (k : ℕ) → place ≤ k → k < later → IsLost st.lost k
+  pub got : gap.got ≡ number_at terms later
+
+-- A receiver is broken only behind a gap.
+abbrev pub IsBrokenByLoss : {A : Type 0} → Terms → State A → Type 0
+IsBrokenByLoss terms st = (gap : Gap) → st.receiver.broken ≡ Some gap → IsTold terms st gap
+
+-- From a place of an epoch that was lost on, nothing of that epoch is given.
+abbrev pub StopsAtLoss : {A : Type 0} → Terms → State A → Type 0
+StopsAtLoss terms st = EachEpoch
+    (λ from here. (k : ℕ) → IsLost st.lost k → from.sent ≤ k → k < here.sent → from.sent + (here.given - from.given) ≤ k)
+    st.cuts (reach st.sent st.given)
+
+-- how many epochs there are
+abbrev pub epochs : {A : Type 0} → State A → ℕ
+epochs st = length st.cuts + 1
+
+-- Each epoch after the first was begun by a loss of its own.
+abbrev pub HasFewEpochs : {A : Type 0} → Terms → State A → Type 0
+HasFewEpochs terms st = epochs st ≤ 1 + st.losses
+
+-- A count that is read back from its spelling is the count that was told.
+abbrev pub ReadsBack : {A : Type 0} → Terms → State A → Type 0
+ReadsBack terms st = (status : Told) (rest : List Told) → st.back ≡ status ∷ rest
+    → spelled_less st.sender.sent (spelled status.told) ≡ less st.sender.sent status.told
+
+-- A RESYNC that arrives tells all that was sent.
+abbrev pub TellsTotals : {A : Type 0} → Terms → State A → Type 0
+TellsTotals {A} terms st = (told : Count) (rest : List (Entry A)) → st.forward ≡ Command Resync told ∷ rest → told ≡ st.sender.sent
+
+-- A packet that arrives at a good receiver has the expected number only at the expected place.
+abbrev pub NumbersTell : {A : Type 0} → Terms → State A → Type 0
+NumbersTell {A} terms st = (place : ℕ) (load : Load A) (rest : List (Entry A)) → st.forward ≡ Data place load ∷ rest
+    → number_at terms place ≡ expected st.receiver → terms.start.packets + place ≡ st.receiver.reached.packets
+
+-- runs go on by an act, and one after another
+abbrev pub GoesOn : Type 0 → Type 0
+GoesOn A = (terms : Terms) (from to : State A) (act : Act A) → Leads terms from to → Allowed terms to act → Leads terms from (after terms to act)
+
+abbrev pub Joins : Type 0 → Type 0
+Joins A = (terms : Terms) (from mid to : State A) → Leads terms from mid → Leads terms mid to → Leads terms from to

@@ -1,0 +1,9 @@
+pub mod Acts
+pub mod Chains
+pub mod Ends
+pub mod Epochs
+pub mod Example
+pub mod Invariant
+pub mod Laws
+pub mod Machine
+pub mod Talk

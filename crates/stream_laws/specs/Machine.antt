@@ -1,0 +1,93 @@
+-- The machine of one stream: its producer, both ends, and what is under way between them.
+use Rattle.std.specs.Prelude.{ℕ, ◌+◌, ◌%◌, ◌^◌, Bool, false, Option, List, [], length}
+use Rattle.std.specs.List.{sum_by}
+use Rattle.chdr_words.specs.declared.command.CmdOp.{CmdOp}
+use Rattle.stream_endpoint.specs.declared.count.Count.{Count}
+use Rattle.stream_endpoint.specs.declared.flow.Flow.{Flow}
+use Rattle.stream_endpoint.specs.declared.flow.Policy.{Policy}
+use Rattle.stream_endpoint.specs.declared.state.Gap.{Gap}
+use Rattle.stream_endpoint.specs.Counts.{none}
+use Rattle.stream_endpoint.specs.Receiver.{Receiver, listening, transferred}
+use Rattle.stream_endpoint.specs.Sender.{Sender, opening}
+
+-- what a stream was made for; its counts begin at the start
+pub record Terms : Type 0 where
+  pub flow : Flow
+  pub policy : Policy
+  pub start : Count
+
+-- a packet, as far as a stream looks at it: its wire size, and all the rest
+pub record Load (A : Type 0) : Type 0 where
+  pub wire : ℕ
+  pub item : A
+
+-- so many packets, and the sum of their wire sizes
+abbrev pub count_of : {A : Type 0} → List (Load A) → Count
+count_of loads = record { packets = length loads; bytes = sum_by (λ load. load.wire) loads }
+
+-- under way from the producer: a packet with its place in what was sent, or a command with its whole counts
+pub data Entry (A : Type 0) : Type 0 where
+  Data : ℕ → Load A → Entry A
+  Command : CmdOp → Count → Entry A
+
+-- a status, under way from the consumer: the receiver's gap and its whole transferred counts
+pub record Told : Type 0 where
+  pub gap : Option Gap
+  pub told : Count
+
+-- how much was sent and given when a RESYNC arrived: there one epoch ends and the next begins
+pub record Cut : Type 0 where
+  pub sent : ℕ
+  pub given : ℕ
+
+pub record State (A : Type 0) : Type 0 where
+  -- what the producer has made and not sent
+  pub ready : List (Load A)
+  -- the producer makes no more
+  pub closed : Bool
+  pub sent : List (Load A)
+  pub sender : Sender
+  -- what is under way to the consumer, the next to arrive first
+  pub forward : List (Entry A)
+  pub receiver : Receiver
+  -- all that the receiver kept, and how many of these the consumer has taken
+  pub given : List (Load A)
+  pub taken : ℕ
+  -- the statuses under way to the producer, the next to arrive first
+  pub back : List Told
+  -- the epochs that have ended, the latest first
+  pub cuts : List Cut
+  -- one past the place of the packet that arrived last
+  pub next : ℕ
+  -- what was lost or discarded in this epoch
+  pub missing : Count
+  -- the places of the packets that were lost
+  pub lost : List ℕ
+  -- how many packets, commands and statuses were lost
+  pub losses : ℕ
+
+abbrev pub opens : {A : Type 0} → Terms → State A
+opens terms = record {
+  ready = [];
+  closed = false;
+  sent = [];
+  sender = opening terms.start;
+  forward = [];
+  receiver = listening terms.flow terms.start;
+  given = [];
+  taken = 0;
+  back = [];
+  cuts = [];
+  next = 0;
+  missing = none;
+  lost = [];
+  losses = 0;
+}
+
+-- the number of the packet at a place of what was sent
+abbrev pub number_at : Terms → ℕ → ℕ
+number_at terms place = (terms.start.packets + place) % 2 ^ 16
+
+-- the status that tells a receiver
+abbrev pub told_by : Receiver → Told
+told_by r = record { gap = r.broken; told = transferred r }
