@@ -1,0 +1,6 @@
+pub mod Derived
+mod Graphs
+mod Keys
+mod Places
+mod Reached
+mod Tables

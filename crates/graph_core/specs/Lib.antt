@@ -1,0 +1,7 @@
+pub mod Derivation
+pub mod Edges
+pub mod Pairs
+pub mod Ports
+pub mod Reach
+pub mod Refusals
+pub mod State

@@ -1,0 +1,18 @@
+//! A radio graph: its blocks, its edges, the values that a user set and those that a commit left.
+#![tactic(auto)]
+
+mod connect;
+mod fault;
+mod graph;
+mod law;
+mod place;
+mod ports;
+mod reach;
+mod values;
+
+pub use fault::{ConnectFault, SetFault};
+pub use graph::{BlockKinds, Edges, Graph};
+pub use law::closed_is_unique;
+pub use place::{Edge, PortAt, Prop, PropAt, Rule, Side};
+pub use ports::{port_count, ports_at};
+pub use values::Values;
