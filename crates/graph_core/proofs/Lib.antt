@@ -1,6 +1,6 @@
 pub mod Derived
-mod Graphs
+pub mod Graphs
 mod Keys
-mod Places
+pub mod Places
 mod Reached
 mod Tables

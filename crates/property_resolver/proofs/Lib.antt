@@ -1,0 +1,9 @@
+mod Bounded
+mod Closing
+mod Counted
+mod Decided
+mod Found
+mod Learned
+mod Listed
+mod Passed
+mod Started

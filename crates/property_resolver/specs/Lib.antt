@@ -1,0 +1,5 @@
+pub mod Causes
+pub mod Missing
+pub mod Outcome
+pub mod Work
+pub mod Spreads

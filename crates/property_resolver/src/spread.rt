@@ -1,0 +1,107 @@
+ghost use Rattle.std.specs.Prelude.{◌≡◌, ◌+◌, ◌<◌, ◌≤◌, Contains, OnOk, IfErr, length, slice_get, Some};
+ghost use Rattle.graph_core.specs.Derivation.{IsDerivation, IsSpread};
+ghost use Rattle.graph_core.specs.Ports.{FitsKind, IsProperty, port_count};
+ghost use Rattle.property_resolver.specs.Causes.{IsCause};
+ghost use Rattle.property_resolver.specs.Spreads.{Grows, EdgesSpread, PortsSpread};
+ghost use Rattle.property_resolver.specs.Work.{edge_work};
+
+use crate::learn::learn;
+use crate::rule::{across, carried};
+use crate::{CommitFault, Steps};
+use block_library::BlockKind;
+use graph_core::{Graph, PropAt, Rule, Side, Values, port_count};
+use std::sync::ledger::Ledger;
+
+/// Applies each edge at the property to its value.
+fn spread_edges<L: Ledger>(
+    graph: &Graph,
+    values: &mut Values,
+    at: PropAt,
+    value: u64,
+    steps: &mut Steps<L>,
+) -> Result<(), CommitFault>
+    requires derived { IsDerivation graph.now.diagram values.old }
+    requires held { Contains values.old (at, value) }
+    ensures grows { OnOk result (Grows graph.now.diagram values.old values.new) }
+    ensures spread { OnOk result (EdgesSpread graph.now.diagram.edges (length graph.now.diagram.edges) values.new at value) }
+    ensures cause { IfErr result (IsCause graph.now.diagram) }
+    ensures rises { steps.old ≤ steps.new }
+    ensures cost { steps.new ≤ steps.old + edge_work graph.now.diagram.edges at }
+{
+    let edges = graph.edges().as_slice();
+    for (number, edge) in edges.iter().enumerate() {
+        if let Some(to) = across(edge, at) {
+            steps.tick();
+            learn(values, Rule::Edge(number as u16), to, value)?;
+        }
+    }
+    Ok(())
+}
+
+/// Gives the value on to each port on one side of the property's block.
+fn spread_side(
+    graph: &Graph,
+    kind: BlockKind,
+    side: Side,
+    values: &mut Values,
+    at: PropAt,
+    value: u64,
+) -> Result<(), CommitFault>
+    requires derived { IsDerivation graph.now.diagram values.old }
+    requires held { Contains values.old (at, value) }
+    requires stands { slice_get graph.now.diagram.kinds at.block ≡ Some kind }
+    requires kind { FitsKind kind }
+    ensures grows { OnOk result (Grows graph.now.diagram values.old values.new) }
+    ensures spread { OnOk result (PortsSpread kind side (port_count side kind) values.new at value) }
+    ensures cause { IfErr result (IsCause graph.now.diagram) }
+{
+    for port in 0..port_count(kind, side) {
+        let Some(derived) = carried(kind, at.prop, at.side, side, value) else {
+            return Err(CommitFault::NotWhole {
+                block: at.block,
+                value,
+            });
+        };
+        let to = PropAt {
+            block: at.block,
+            side,
+            port,
+            prop: at.prop,
+        };
+        learn(values, Rule::Block(at.block), to, derived)?;
+    }
+    Ok(())
+}
+
+/// The kind of the block of that number.
+fn kind_of(kinds: &[BlockKind], block: u16) -> Option<BlockKind>
+    ensures { result ≡ slice_get kinds.now block }
+{
+    kinds.get(block as usize).copied()
+}
+
+/// Gives the value on by the edges at the property and by its block.
+pub(crate) fn spread<L: Ledger>(
+    graph: &Graph,
+    values: &mut Values,
+    at: PropAt,
+    value: u64,
+    steps: &mut Steps<L>,
+) -> Result<(), CommitFault>
+    requires derived { IsDerivation graph.now.diagram values.old }
+    requires held { Contains values.old (at, value) }
+    ensures grows { OnOk result (Grows graph.now.diagram values.old values.new) }
+    ensures spread { OnOk result (IsSpread graph.now.diagram values.new at value) }
+    ensures cause { IfErr result (IsCause graph.now.diagram) }
+    ensures rises { steps.old ≤ steps.new }
+    ensures cost { steps.new ≤ steps.old + (1 + edge_work graph.now.diagram.edges at) }
+{
+    spread_edges(graph, values, at, value, steps)?;
+    steps.tick();
+    let Some(kind) = kind_of(graph.kinds().as_slice(), at.block) else {
+        return Ok(());
+    };
+    spread_side(graph, kind, Side::Into, values, at, value)?;
+    spread_side(graph, kind, Side::Out, values, at, value)?;
+    Ok(())
+}
