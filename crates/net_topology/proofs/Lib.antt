@@ -1,0 +1,11 @@
+pub mod WalkLemmas
+pub mod PartLemmas
+pub mod WayLemmas
+pub mod UniqueLemmas
+pub mod RankLemmas
+pub mod CountLemmas
+pub mod BackLemmas
+pub mod CheckLemmas
+pub mod LinkLemmas
+pub mod LawLemmas
+pub mod PortLemmas

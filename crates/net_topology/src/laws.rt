@@ -1,0 +1,64 @@
+//! The laws of a tree, for the crates above: each is the contract of a function that does nothing.
+ghost use Rattle.std.specs.Prelude.{◌≡◌, ◌≢◌, ◌*◌, ◌<◌, ℕ, Bool, IsTrue, false, List, ◌∷◌, length, map, reverse, Some};
+ghost use Rattle.net_topology.specs.Links.{back_of, start_of, end_of, start_port, end_port, IsWay, NeverTurns, link_at};
+ghost use Rattle.net_topology.specs.Parts.{way_of};
+ghost use Rattle.net_topology.specs.Ranks.{rank_of, MayFollow};
+ghost use Rattle.net_topology.specs.Tree.{IsTree};
+
+use crate::Plan;
+
+/// There is one way between any two nodes of a tree, and no other.
+pub fn ways_are_unique(plan: &Plan)
+    requires { IsTree plan.now }
+    ensures there { (a b : ℕ) → a < length plan.now.nodes → b < length plan.now.nodes
+        → IsWay plan.now.links a b (way_of plan.now.links a b) }
+    ensures only { (a b : ℕ) (ds : List ℕ) → IsWay plan.now.links a b ds
+        → ds ≡ way_of plan.now.links a b }
+{
+    let _ = plan;
+}
+
+/// Behind the first link of a way lies the way from that link's end, and a way never turns back.
+pub fn ways_go_on(plan: &Plan)
+    ensures next { (a b d : ℕ) (ds : List ℕ) → IsWay plan.now.links a b (d ∷ ds)
+        → IsWay plan.now.links (end_of plan.now.links d) b ds }
+    ensures turns { (a b : ℕ) (ds : List ℕ) → IsWay plan.now.links a b ds → NeverTurns ds }
+    ensures follows { (a b d e : ℕ) (ds : List ℕ) → IsWay plan.now.links a b (d ∷ e ∷ ds)
+        → MayFollow plan.now.links d e }
+{
+    let _ = plan;
+}
+
+/// The way back is the way reversed.
+pub fn ways_lead_back(plan: &Plan)
+    requires { IsTree plan.now }
+    ensures { (a b : ℕ) → a < length plan.now.nodes → b < length plan.now.nodes
+        → way_of plan.now.links b a ≡ reverse (map back_of (way_of plan.now.links a b)) }
+{
+    let _ = plan;
+}
+
+/// The rank of directed links falls where a packet goes on. So of the links that hold packets, one
+/// leads to no link that holds any: its first packet can always move.
+pub fn some_link_is_clear(plan: &Plan)
+    requires { IsTree plan.now }
+    ensures falls { (d e : ℕ) → d < 2 * length plan.now.links → MayFollow plan.now.links d e
+        → rank_of plan.now e < rank_of plan.now d }
+    ensures clear { (busy : ℕ → Bool) (d : ℕ) → d < 2 * length plan.now.links → IsTrue (busy d)
+        → (c : ℕ) × (c < 2 * length plan.now.links) × IsTrue (busy c)
+        × ((e : ℕ) → MayFollow plan.now.links c e → busy e ≡ false) }
+{
+    let _ = plan;
+}
+
+/// A port names one directed link, and a packet that leaves by another port than it came by goes on.
+pub fn ports_name_links(plan: &Plan)
+    requires { IsTree plan.now }
+    ensures named { (d : ℕ) → d < 2 * length plan.now.links → link_at plan.now.links
+        (start_of plan.now.links d) (start_port plan.now.links d) ≡ Some d }
+    ensures onward { (d e port : ℕ) → port ≢ end_port plan.now.links d
+        → link_at plan.now.links (end_of plan.now.links d) port ≡ Some e
+        → MayFollow plan.now.links d e }
+{
+    let _ = plan;
+}

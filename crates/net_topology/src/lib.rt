@@ -1,0 +1,14 @@
+//! The shape of a network: plans of nodes and links, which of them are trees, and the ways in a tree.
+#![tactic(auto)]
+
+mod check;
+pub mod laws;
+mod plan;
+mod topology;
+
+pub use check::PlanFault;
+pub use plan::{LinkList, LinkNumbers, LinkPlan, NodeList, NodePlan, Plan};
+pub use topology::Topology;
+
+#[cfg(test)]
+mod tests;
