@@ -1,0 +1,20 @@
+//! Banks of registers, which the caller hands in, and the control operations on them.
+#![tactic(auto)]
+
+mod answer;
+mod bank;
+mod banks;
+mod bits;
+mod fixed;
+mod operation;
+mod plain;
+mod slots;
+
+pub use bank::{Bank, RegisterBank};
+pub use banks::{Banks, RegisterSlots};
+pub use fixed::operate_fixed;
+pub use operation::operate_on;
+pub use plain::PlainBank;
+
+#[cfg(test)]
+mod tests;
