@@ -1,0 +1,6 @@
+pub mod Prefixes
+pub mod Steps
+pub mod Putting
+pub mod Taking
+pub mod Seats
+pub mod Ends

@@ -1,0 +1,5 @@
+pub mod Planned
+pub mod Rule
+pub mod Plays
+pub mod Sides
+pub mod Held
