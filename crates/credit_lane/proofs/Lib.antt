@@ -4,3 +4,4 @@ pub mod Putting
 pub mod Taking
 pub mod Seats
 pub mod Ends
+pub mod Laws

@@ -13,10 +13,10 @@ use Rattle.credit_lane.specs.declared.plan.LanePlan.TheVariants.{Any, Producer}
 use Rattle.credit_lane.specs.declared.rule.View.{View}
 use Rattle.credit_lane.specs.Planned.{IsPlanned, IsNext}
 use Rattle.block_library.specs.Producer.{produced}
-use Rattle.credit_lane.specs.Rule.{Course, IsCourse, IsLane}
+use Rattle.credit_lane.specs.Rule.{Homes, Course, IsCourse, IsLane}
 use Rattle.credit_lane.specs.Plays.{Seated, filling, filled, knows_taken, takes_empty, gives_full, sees_taken}
 use Rattle.credit_lane.proofs.Prefixes.{begins_itself, begins_grown, begins_longer, no_longer, get_last, get_apart, begins_next, apart}
-use Rattle.credit_lane.proofs.Steps.{Homes, Goes, after, by_putter, is_by_putter, beside_putter, same_put, same_taken, unmoved}
+use Rattle.credit_lane.proofs.Steps.{Goes, after, by_putter, is_by_putter, beside_putter, same_put, same_taken, unmoved}
 
 pub fits_more : (plan : LanePlan) (put : List Packet) (x : Packet) → IsPlanned plan put → IsNext plan put x → IsPlanned plan (put ++ x ∷ [])
 fits_more Any put x fits next = tt

@@ -1,22 +1,18 @@
 -- The rule of a lane after a step: what all kinds of step share.
 use Rattle.std.proofs.Common.{◌≡◌, ◌≢◌, ℕ, Bool, true, List, [], ◌∷◌, length, set, slice_index, Option, refl, sym, ap, subst, ◌∙◌, ⊎_elim}
 use mathlib.Core.Path.{Path}
-use mathlib.Core.Option as maybe
 use mathlib.Core.List.{IsPrefix}
 use Rattle.atomic_table.specs.Table.{State, Act, Valid, stepped, carried_after}
 use Rattle.atomic_table.proofs.Lists.{at_set}
 use Rattle.chdr_packets.specs.declared.packet.Packet.{Packet}
 use Rattle.credit_lane.specs.declared.plan.LanePlan.{LanePlan}
 use Rattle.credit_lane.specs.declared.rule.View.{View}
-use Rattle.credit_lane.specs.Rule.{Course, IsCourse, Knows, IsLane}
+use Rattle.credit_lane.specs.Rule.{Homes, Course, IsCourse, Knows, IsLane}
 use Rattle.credit_lane.specs.Plays.{Seated}
 use Rattle.credit_lane.proofs.Prefixes.{begins_chain}
 
 abbrev pub Lanes : Type 0
 Lanes = State (Option Packet) View
-
-abbrev pub Homes : Type 0
-Homes = List (maybe.Option (Option Packet))
 
 module _ (plan : LanePlan) where
   -- the seat has a new view and an act that keep the rule, where the word i becomes `new`

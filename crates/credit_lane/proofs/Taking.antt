@@ -12,10 +12,10 @@ use Rattle.chdr_packets.specs.declared.packet.Packet.{Packet}
 use Rattle.credit_lane.specs.declared.plan.LanePlan.{LanePlan}
 use Rattle.credit_lane.specs.declared.rule.View.{View}
 use Rattle.credit_lane.specs.Planned.{IsPlanned}
-use Rattle.credit_lane.specs.Rule.{Course, IsCourse, IsLane}
+use Rattle.credit_lane.specs.Rule.{Homes, Course, IsCourse, IsLane}
 use Rattle.credit_lane.specs.Plays.{Seated, emptying, emptied, knows_put, next_of, takes_full, gives_empty, sees_put, compares}
 use Rattle.credit_lane.proofs.Prefixes.{begins_itself, begins_grown, begins_longer, no_longer, get_in_longer, begins_next, apart}
-use Rattle.credit_lane.proofs.Steps.{Homes, Goes, after, by_taker, is_by_taker, beside_taker, same_put, same_taken, unmoved}
+use Rattle.credit_lane.proofs.Steps.{Goes, after, by_taker, is_by_taker, beside_taker, same_put, same_taken, unmoved}
 
 module _ (plan : LanePlan) where
   -- a full slot comes to the taker

@@ -1,5 +1,5 @@
 -- What the fields of a lane and of its ends keep.
-use Rattle.std.specs.Prelude.{◌≡◌, ℕ, ◌+◌, ◌<◌, ◌≤◌, true, false, List, [], length}
+use Rattle.std.specs.Prelude.{◌≡◌, ℕ, ◌+◌, ◌<◌, ◌≤◌, true, List, [], length}
 use mathlib.Core.List.{IsPrefix}
 use Rattle.atomic_table.specs.Seated.{TableId}
 use Rattle.chdr_packets.specs.declared.packet.Packet.{Packet}
@@ -7,7 +7,7 @@ use Rattle.credit_lane.specs.declared.plan.LanePlan.{LanePlan}
 use Rattle.credit_lane.specs.declared.rule.View.{View}
 use Rattle.credit_lane.specs.Planned.{IsPlanned}
 use Rattle.credit_lane.specs.Plays.{Seated}
-use Rattle.credit_lane.specs.Rule.{opened}
+use Rattle.credit_lane.specs.Rule.{opened, putter_of, taker_of}
 
 -- a table of this room
 pub record HasRoom (table : TableId) (room : ℕ) : Type 0 where
@@ -16,12 +16,12 @@ pub record HasRoom (table : TableId) (room : ℕ) : Type 0 where
   pub least : 0 < room
   pub most : room ≤ 1024
 
--- between its calls the putter holds no slot
+-- the views of both ends between their calls, when they hold no slot
 abbrev pub putting : LanePlan → List Packet → List Packet → View
-putting plan put got = record { puts = true; takes = false; fills = false; empties = false; plan = plan; put = put; got = got; heard_put = []; heard_got = [] }
+putting rule packets taken = record (putter_of (opened rule)) { put = packets; got = taken }
 
 abbrev pub taking : LanePlan → List Packet → List Packet → View
-taking plan put got = record { puts = false; takes = true; fills = false; empties = false; plan = plan; put = put; got = got; heard_put = []; heard_got = [] }
+taking rule packets taken = record (taker_of (opened rule)) { put = packets; got = taken }
 
 pub record Puts (plan : LanePlan) (room put taken : ℕ) (me : Seated) : Type 0 where
   pub seat : me ≡ (putting plan me.0.put me.0.got, [])

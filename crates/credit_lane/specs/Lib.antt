@@ -3,3 +3,5 @@ pub mod Rule
 pub mod Plays
 pub mod Sides
 pub mod Held
+pub mod Fields
+pub mod Law

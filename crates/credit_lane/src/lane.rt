@@ -7,7 +7,9 @@ use rf_base::Memory;
 use std::alloc::Global;
 use std::marker::Model;
 
-/// A bounded queue of packets with one putting end and one taking end; docs/threads.md has its rule.
+/// A bounded queue of packets with one putting end and one taking end.
+///
+/// Rule: docs/threads.md, "The rule".
 #[derive(Drop)]
 pub struct Lane {
     table: LaneTable,
@@ -20,19 +22,19 @@ impl Model for Lane {
 
     ghost Value = { Unsplit };
 
-    ghost use Rattle.std.specs.Prelude.{◌≡◌};
-    ghost use Rattle.credit_lane.specs.Held.{HasRoom, IsWhole};
+    ghost use Rattle.credit_lane.specs.Fields.{unsplit, KeepsWhole};
 
-    ghost view = { λ l. record { lane = record { table = l.table.shared.table_id; plan = l.table.shared.key; room = l.room }; whole = l.seat.me.0.puts } };
+    ghost view = { unsplit };
 
-    ghost invariant = { λ l. (l.seat.table_id ≡ l.table.shared.table_id) × HasRoom l.table.shared.table_id l.room × IsWhole l.table.shared.key l.seat.me };
+    ghost invariant = { KeepsWhole };
 }
 
 impl Lane {
     /// An empty lane for at most `room` packets.
     pub fn new(alloc: Global, plan: LanePlan, room: u32) -> Result<Lane, Memory>
         requires { (0 < room) × (room ≤ 1024) }
-        ensures lane { IfOk result (λ made. (made.lane.plan ≡ plan) × (made.lane.room ≡ room)) }
+        ensures plan { IfOk result (λ made. made.lane.plan ≡ plan) }
+        ensures room { IfOk result (λ made. made.lane.room ≡ room) }
         ensures whole { IfOk result (λ made. made.whole ≡ true) }
     {
         let (table, seat) = Table::vacant(alloc, &[0, 0], room as usize, &plan)?;

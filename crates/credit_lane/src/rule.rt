@@ -24,7 +24,7 @@ pub struct View {
     pub put: PacketList,
     /// The packets that it knows to be taken.
     pub got: PacketList,
-    /// What the taker knew to be put, and the putter to be taken, before this seat was joined of both.
+    /// What the taker knew to be put, and the putter to be taken, before both were joined.
     pub heard_put: PacketList,
     pub heard_got: PacketList,
 }

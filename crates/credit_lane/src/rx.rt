@@ -21,12 +21,11 @@ impl<'a> Model for LaneRx<'a> {
 
     ghost Value = { TakeSide };
 
-    ghost use Rattle.std.specs.Prelude.{◌≡◌};
-    ghost use Rattle.credit_lane.specs.Held.{HasRoom, Takes};
+    ghost use Rattle.credit_lane.specs.Fields.{take_side, KeepsTaken};
 
-    ghost view = { λ e. record { lane = record { table = e.table.now.shared.table_id; plan = e.table.now.shared.key; room = e.room }; got = e.seat.me.0.got; known = e.seat.me.0.put } };
+    ghost view = { take_side };
 
-    ghost invariant = { λ e. (e.seat.table_id ≡ e.table.now.shared.table_id) × HasRoom e.table.now.shared.table_id e.room × Takes e.table.now.shared.key e.room e.taken e.put e.seat.me };
+    ghost invariant = { KeepsTaken };
 }
 
 impl LaneRx<'_> {

@@ -27,7 +27,8 @@ fn numbered(alloc: Global, number: u64) -> Packet {
 
 /// Puts numbered packets while there is room, up to `most`, and answers how many were put in all.
 fn fill(alloc: Global, tx: &mut LaneTx<'_>, from: u64, most: u64) -> u64
-    requires { (length tx.old.put ≡ from) × (from ≤ most) × (most < 2 ^ 63) × (tx.old.lane.plan ≡ Any) }
+    requires count { (length tx.old.put ≡ from) × (from ≤ most) × (most < 2 ^ 63) }
+    requires plan { tx.old.lane.plan ≡ Any }
     ensures lane { tx.new.lane ≡ tx.old.lane }
     ensures put { (length tx.new.put ≡ result) × (result ≤ most) }
 {
@@ -40,7 +41,7 @@ fn fill(alloc: Global, tx: &mut LaneTx<'_>, from: u64, most: u64) -> u64
     put
 }
 
-/// Takes all packets that are there at one look, and answers whether they had the numbers from `from` on.
+/// Takes what one look finds, and answers whether the packets had the numbers from `from` on.
 fn drain(rx: &mut LaneRx<'_>, from: u64) -> (u64, bool)
     ensures lane { rx.new.lane ≡ rx.old.lane }
 {
@@ -80,7 +81,8 @@ fn round<R: Threads + Sync>(
     got: u64,
     most: u64,
 ) -> (u64, (u64, bool))
-    requires { (length tx.old.put ≡ put) × (put ≤ most) × (most < 2 ^ 63) × (tx.old.lane.plan ≡ Any) }
+    requires count { (length tx.old.put ≡ put) × (put ≤ most) × (most < 2 ^ 63) }
+    requires plan { tx.old.lane.plan ≡ Any }
     ensures lanes { (tx.new.lane ≡ tx.old.lane) × (rx.new.lane ≡ rx.old.lane) }
     ensures put { (length tx.new.put ≡ result.0) × (result.0 ≤ most) }
 {
@@ -99,7 +101,8 @@ fn carry<R: Threads + Sync>(
     mut rx: LaneRx<'_>,
     most: u64,
 ) -> (LaneEnd, bool)
-    requires { (tx.lane ≡ rx.lane) × (length tx.put ≡ 0) × (most < 2 ^ 63) × (tx.lane.plan ≡ Any) }
+    requires lane { (tx.lane ≡ rx.lane) × (tx.lane.plan ≡ Any) }
+    requires count { (length tx.put ≡ 0) × (most < 2 ^ 63) }
 {
     let mut put = 0;
     let mut got = 0;

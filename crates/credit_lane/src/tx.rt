@@ -20,12 +20,11 @@ impl<'a> Model for LaneTx<'a> {
 
     ghost Value = { PutSide };
 
-    ghost use Rattle.std.specs.Prelude.{◌≡◌};
-    ghost use Rattle.credit_lane.specs.Held.{HasRoom, Puts};
+    ghost use Rattle.credit_lane.specs.Fields.{put_side, KeepsPut};
 
-    ghost view = { λ e. record { lane = record { table = e.table.now.shared.table_id; plan = e.table.now.shared.key; room = e.room }; put = e.seat.me.0.put; taken = e.taken } };
+    ghost view = { put_side };
 
-    ghost invariant = { λ e. (e.seat.table_id ≡ e.table.now.shared.table_id) × HasRoom e.table.now.shared.table_id e.room × Puts e.table.now.shared.key e.room e.put e.taken e.seat.me };
+    ghost invariant = { KeepsPut };
 }
 
 impl LaneTx<'_> {
