@@ -1,4 +1,4 @@
-ghost use Rattle.std.specs.Prelude.{◌≡◌};
+ghost use Rattle.std.specs.Prelude.{◌≡◌, ◌↔◌, IsTrue, All};
 
 use chdr_words::Epid;
 use rf_base::{Copyable, Items, Memory};
@@ -17,7 +17,23 @@ pub enum NodePlan {
 }
 
 impl NodePlan {
-    ghost use Rattle.net_topology.specs.Tree.{ports_of, epid_of, has_epid};
+    ghost use Rattle.net_topology.specs.Tree.{FitsNode, ports_of, epid_of, has_epid};
+
+    /// Whether an EPID isn't 0, a crossbar has 1 to 32 ports, and a bank is below 16.
+    pub fn fits(&self) -> bool
+        ensures { IsTrue result ↔ FitsNode self.now }
+    {
+        match self {
+            NodePlan::Crossbar { ports } => 1 <= *ports && *ports <= 32,
+            NodePlan::Adapter => true,
+            NodePlan::Host { epid } => epid.0 > 0,
+            NodePlan::Endpoint { epid, bank: None } => epid.0 > 0,
+            NodePlan::Endpoint {
+                epid,
+                bank: Some(bank),
+            } => epid.0 > 0 && *bank < 16,
+        }
+    }
 
     /// How many ports the node has.
     pub fn ports(&self) -> u8
@@ -107,6 +123,18 @@ pub struct Plan {
     pub links: LinkList,
     /// How many packets each directed link can hold.
     pub room: u32,
+}
+
+impl Plan {
+    ghost use Rattle.std.specs.Prelude.{◌↔◌, IsTrue, All};
+    ghost use Rattle.net_topology.specs.Tree.{FitsNode};
+
+    /// Whether each node fits: what a check asks for.
+    pub fn fits(&self) -> bool
+        ensures { IsTrue result ↔ All FitsNode self.now.nodes }
+    {
+        self.nodes.as_slice().iter().all(|node| node.fits())
+    }
 }
 
 impl Copyable for Plan {
