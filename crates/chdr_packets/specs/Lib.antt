@@ -1,1 +1,4 @@
 pub mod Length
+pub mod Fits
+pub mod Grammar
+pub mod Reading

@@ -1,9 +1,13 @@
 //! Whole CHDR packets at the 64-bit width.
 #![tactic(auto)]
 
+mod decoding;
+mod fault;
 mod length;
 mod packet;
 
+pub use decoding::{decode, pass};
+pub use fault::PacketFault;
 pub use packet::{Body, Packet, PacketList};
 
 #[cfg(test)]

@@ -4,3 +4,4 @@ pub mod ControlLemmas
 pub mod ControlWriting
 pub mod ManagementLemmas
 pub mod ManagementReading
+pub mod PlainLemmas

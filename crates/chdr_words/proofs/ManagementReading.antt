@@ -57,7 +57,7 @@ words_at-below : (n : ℕ) (b : List ℕ) (at : ℕ) → IsBytes b → Below (2 
 words_at-below zero b at fits = rw (each_at-none word_at 8 b at) tt
 words_at-below (suc n) b at fits = rw (each_at-cons word_at 8 b at n) (word_at-below b at fits, words_at-below n b (at + 8) fits)
 
-small_take : (n : ℕ) (l : List ℕ) (i : ℕ) → ((j : ℕ) → get_or l j 0 < 256) → get_or (take n l) i 0 < 256
+pub small_take : (n : ℕ) (l : List ℕ) (i : ℕ) → ((j : ℕ) → get_or l j 0 < 256) → get_or (take n l) i 0 < 256
 small_take zero l i h = omega arith
 small_take (suc n) [] i h = h i
 small_take (suc n) (x ∷ l) zero h = h 0

@@ -1,11 +1,11 @@
 -- Words as bytes.
-use Rattle.std.proofs.Common.{◌∙◌, ℕ, zero, suc, add-one, add-zero, ◌≡◌, ◌+◌, ◌*◌, ◌^◌, ◌<◌, List, [], ◌∷◌, ◌++◌, length, get_or, refl, sym, ap, append_assoc, arith}
+use Rattle.std.proofs.Common.{◌≤◌, ◌∙◌, ℕ, zero, suc, add-one, add-zero, ◌≡◌, ◌+◌, ◌*◌, ◌^◌, ◌<◌, List, [], ◌∷◌, ◌++◌, length, get_or, take, drop, refl, sym, ap, append_assoc, arith}
 use Rattle.std.specs.Int.{w32, w64, from_le_bytes, to_le_bytes}
 use Rattle.std.proofs.lemmas.Nat.{from_le_bytes-to_le_bytes_4, from_le_bytes-to_le_bytes_8}
 use Rattle.std.specs.List.{flat_map, AllByRecursion}
-use Rattle.std.proofs.lemmas.List.{get_or-drop, length-append, drop_at}
+use Rattle.std.proofs.lemmas.List.{get_or-drop, length-append, drop_at, drop-append-le, get_or_append_left, length-drop}
 use Rattle.std.proofs.lemmas.List.Concat.{flat_map-cons}
-use Rattle.chdr_words.specs.Field.{word_at, half_at, each_at}
+use Rattle.chdr_words.specs.Field.{word_at, half_at, each_at, words_at}
 
 -- a word's bytes spell it
 pub word_of : (bytes : List ℕ) (a : ℕ) → a < 2 ^ 64 → bytes ≡ to_le_bytes w64 a → from_le_bytes w64 bytes ≡ a
@@ -89,3 +89,22 @@ each_at-written encode read size limit code (w ∷ words) front rest below =
     rw (at, two) (each_at-written encode read size limit code words (front ++ encode w) rest below.1) in
     each_at-cons read size bytes (length front) (length words) ∙ ap (λ (x : ℕ). x ∷ each_at read size bytes (length front + size) (length words)) head
     ∙ ap (λ (x : List ℕ). w ∷ x) tail
+
+-- ---- what stands in front doesn't depend on what follows
+
+pub word_at-front : (x y : List ℕ) (at : ℕ) → at + 8 ≤ length x → word_at (x ++ y) at ≡ word_at x at
+unfolding word_at
+word_at-front x y at le =
+    let past : at ≤ length x = omega arith in
+    let l : List ℕ = drop at x in
+    let long : 8 ≤ length l = omega (arith, length-drop at x) in
+    let g : (i : ℕ) → i < 8 → get_or (l ++ y) i 0 ≡ get_or l i 0 = λ i lt. get_or_append_left l y 0 i (omega (arith, lt, long)) in
+    ap (λ (z : List ℕ). from_le_bytes w64 z) (drop-append-le at x y past)
+    ∙ rw (g 0 (omega arith), g 1 (omega arith), g 2 (omega arith), g 3 (omega arith), g 4 (omega arith), g 5 (omega arith), g 6 (omega arith), g 7 (omega arith)) refl
+
+pub words_at-front : (count : ℕ) (x y : List ℕ) (at : ℕ) → at + 8 * count ≤ length x → words_at (x ++ y) at count ≡ words_at x at count
+words_at-front zero x y at le = each_at-none word_at 8 (x ++ y) at ∙ sym (each_at-none word_at 8 x at)
+words_at-front (suc count) x y at le =
+    let one : word_at (x ++ y) at ≡ word_at x at = word_at-front x y at (omega arith) in
+    let others : words_at (x ++ y) (at + 8) count ≡ words_at x (at + 8) count = words_at-front count x y (at + 8) (omega arith) in
+    each_at-cons word_at 8 (x ++ y) at count ∙ ap (λ (w : ℕ). w ∷ words_at (x ++ y) (at + 8) count) one ∙ ap (λ (ws : List ℕ). word_at x at ∷ ws) others ∙ sym (each_at-cons word_at 8 x at count)

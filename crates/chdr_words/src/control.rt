@@ -1,5 +1,5 @@
 ghost use Rattle.std.specs.Prelude.{◌≡◌, ◌<◌, ◌≤◌, ◌^◌, ◌+◌, ◌*◌, ◌==◌, if◌then◌else◌, take, length, All, IfOk, IfSome, IsTrue};
-ghost use Rattle.chdr_words.specs.Control.{FitsControl, FitsCtrlOp, SpellsControl, control_bytes, control_head, control_op, control_plain, control_read, control_size, ctrl_op_number, ctrl_op_of, ctrl_status_number, ctrl_status_of};
+ghost use Rattle.chdr_words.specs.Control.{FitsControl, FitsCtrlOp, SpellsControl, control_bytes, control_head, control_op, control_plain, control_read, control_size, control_sized, told_count, told_time, ctrl_op_number, ctrl_op_of, ctrl_status_number, ctrl_status_of};
 ghost use Rattle.chdr_words.specs.Field.{field, halves_at, word_at};
 ghost use Rattle.chdr_words.specs.Wire.{time_bytes, wire_size_of};
 
@@ -212,19 +212,48 @@ pub fn encode_control(v: &Control, out: &mut [u8; 80]) -> usize
     spell(v, out)
 }
 
-fn read(b: &[u8]) -> Result<Control, MsgFault>
-    ensures { result ≡ control_read b.now }
+/// Whether the payload has one of the two sizes that its first word announces.
+pub fn is_control(b: &[u8]) -> bool
+    ensures sized { result ≡ control_sized b.now }
+    ensures long { IsTrue result → control_size (told_time b.now) (told_count b.now) ≤ length b.now }
 {
     if b.len() < 12 {
-        return Err(MsgFault::BadControlLength);
+        return false;
     }
     let first = word_at(b, 0);
     let time = 8 * (first / (1 << 30) % 2) as usize;
     let count = (first / (1 << 20) % (1 << 4)) as usize;
     let size = 12 + time + 4 * count;
-    if b.len() != size && b.len() != (size + 7) / 8 * 8 {
+    b.len() == size || b.len() == (size + 7) / 8 * 8
+}
+
+/// Whether a payload of a good size has zero reserved bits, the rounded size, and a zero rest.
+pub fn is_plain_control(b: &[u8]) -> bool
+    requires { IsTrue (control_sized b.now) }
+    ensures { result ≡ control_plain b.now }
+{
+    if b.len() < 12 {
+        return false;
+    }
+    let first = word_at(b, 0);
+    let time = 8 * (first / (1 << 30) % 2) as usize;
+    let count = (first / (1 << 20) % (1 << 4)) as usize;
+    let size = 12 + time + 4 * count;
+    first / (1 << 48) == 0
+        && half_at(b, 8 + time) / (1 << 28) % 4 == 0
+        && b.len() == (size + 7) / 8 * 8
+        && (b.len() == size || half_at(b, size) == 0)
+}
+
+fn read(b: &[u8]) -> Result<Control, MsgFault>
+    ensures { result ≡ control_read b.now }
+{
+    if !is_control(b) {
         return Err(MsgFault::BadControlLength);
     }
+    let first = word_at(b, 0);
+    let time = 8 * (first / (1 << 30) % 2) as usize;
+    let count = (first / (1 << 20) % (1 << 4)) as usize;
     let op = half_at(b, 8 + time);
     Ok(Control {
         src: Epid((first / (1 << 32) % (1 << 16)) as u16),

@@ -17,7 +17,9 @@ mod words15;
 
 pub use bytes::{half_at, word_at};
 pub use command::{CmdOp, Command, decode_command, encode_command};
-pub use control::{Control, CtrlOp, CtrlStatus, decode_control, encode_control};
+pub use control::{
+    Control, CtrlOp, CtrlStatus, decode_control, encode_control, is_control, is_plain_control,
+};
 pub use epid::Epid;
 pub use fault::MsgFault;
 pub use header::{Header, PktType};

@@ -53,7 +53,8 @@ fn op_of(word: u64) -> MgmtOp
 
 /// Whether the words behind word 0 are whole hops, as many as word 0 says.
 pub fn is_management(b: &[u8]) -> bool
-    ensures { result ≡ management_formed b.now }
+    ensures formed { result ≡ management_formed b.now }
+    ensures long { IsTrue result → 8 ≤ length b.now }
 {
     if b.len() < 8 || b.len() % 8 != 0 {
         return false;

@@ -1,0 +1,210 @@
+-- The packet at the front of bytes: what is read is spelled so, what is spelled so is read, and what follows doesn't matter.
+use Rattle.std.proofs.Common.{◌≡◌, ℕ, zero, suc, ◌+◌, ◌-◌, ◌*◌, ◌/◌, ◌<◌, ◌≤◌, ◌⊎◌, inl, inr, Bool, true, false, cond, ltb, List, [], ◌∷◌, ◌++◌, length, get_or, take, drop, Option, None, Some, Result, Ok, Err, refl, sym, ap, subst, ◌∙◌, arith}
+use Rattle.std.specs.Prelude.{IfSome, IfOk, slice_range}
+use Rattle.std.proofs.lemmas.Bool.{ltb-true, ltb-false, le-ltb}
+use Rattle.std.proofs.lemmas.List.{take-append-drop, length-take, length-append, drop-append-le, take-append-le, length-drop, get_or-drop}
+use Rattle.chdr_words.specs.Field.{word_at, words_at}
+use Rattle.chdr_words.specs.Header.{header_of}
+use Rattle.chdr_words.specs.Wire.{time_bytes, wire_size_of}
+use Rattle.chdr_words.specs.Status.{SpellsStatus, status_of, status_read}
+use Rattle.chdr_words.specs.Command.{SpellsCommand, command_of, command_read}
+use Rattle.chdr_words.specs.Control.{SpellsControl, control_read}
+use Rattle.chdr_words.specs.Management.{SpellsManagement, management_read}
+use Rattle.chdr_words.specs.Reads.{Reads}
+use Rattle.chdr_words.specs.declared.fault.MsgFault.{MsgFault}
+use Rattle.chdr_words.specs.declared.header.Header.{Header}
+use Rattle.chdr_words.specs.declared.header.PktType.{PktType}
+use Rattle.chdr_words.specs.declared.header.PktType.TheVariants as types
+use Rattle.chdr_words.specs.declared.status.Status as statuses
+use Rattle.chdr_words.specs.declared.epid.Epid.{Epid}
+use Rattle.chdr_words.proofs.WordLemmas.{word_at-front, words_at-front, length-each_at}
+use Rattle.chdr_words.proofs.PlainLemmas.{status_takes, status_again, command_takes, command_again}
+use Rattle.chdr_words.proofs.ControlLemmas.{control_again, control_reads}
+use Rattle.chdr_words.proofs.ManagementReading.{IsBytes, small_take, management_again, management_reads}
+use Rattle.chdr_packets.specs.declared.fault.PacketFault.{PacketFault}
+use Rattle.chdr_packets.specs.declared.fault.PacketFault.TheVariants.{ReservedType, BadLength, Message, Memory}
+use Rattle.chdr_packets.specs.declared.packet.Packet.{Packet}
+use Rattle.chdr_packets.specs.declared.packet.Body.{Body}
+use Rattle.chdr_packets.specs.declared.packet.Body.TheVariants as bodies
+use Rattle.chdr_packets.specs.Grammar.{body_time, body_type, samples_type, header_for, SpellsBody, mdata_start, payload_start, Spells, type_time, start_of}
+use Rattle.chdr_packets.specs.Reading.{Gives, is_reserved, tests_of, frame_read, as_body, time_at, body_read, packet_of, packed, opened, packet_read, IsFramed}
+
+abbrev the_body : Body → Result Body PacketFault → Body
+the_body other (Ok body) = body
+the_body other (Err fault) = other
+
+abbrev the_packet : Packet → Result (Option (Packet × ℕ)) PacketFault → Packet
+the_packet other (Ok None) = other
+the_packet other (Ok (Some x)) = x.0
+the_packet other (Err fault) = other
+
+abbrev the_size : ℕ → Result (Option (Packet × ℕ)) PacketFault → ℕ
+the_size other (Ok None) = other
+the_size other (Ok (Some x)) = x.1
+the_size other (Err fault) = other
+
+abbrev packed_with : Header → Body → List ℕ → Result (Option (Packet × ℕ)) PacketFault
+packed_with h body ws = Ok (Some (record { vc = h.vc; eob = h.eob; eov = h.eov; seq = h.seq; dst = h.dst; mdata = ws; body = body }, wire_size_of h.length))
+
+-- ---- the header's tests
+
+abbrev framed : Header → Result (Option Header) PacketFault
+framed h = Ok (Some h)
+
+abbrev tested : Bool → Bool → Bool → Header → Result (Option Header) PacketFault
+tested reserved small cut h = cond reserved (Err ReservedType) (cond small (Err BadLength) (cond cut (Ok None) (Ok (Some h))))
+
+pub record Passed (reserved small cut : Bool) (h g : Header) : Type 0 where
+  pub good : reserved ≡ false
+  pub long : small ≡ false
+  pub whole : cut ≡ false
+  pub same : h ≡ g
+
+tests_passed : (reserved small cut : Bool) (h g : Header) → tested reserved small cut h ≡ framed g → Passed reserved small cut h g
+tests_passed true small cut h g e = absurd cc
+tests_passed false true cut h g e = absurd cc
+tests_passed false false true h g e = absurd cc
+tests_passed false false false h g e = record { good = refl; long = refl; whole = refl; same = cc }
+
+short_or : (b : Bool) (r : Result (Option Header) PacketFault) (g : Header) → cond b (Ok None) r ≡ framed g → (b ≡ false) × (r ≡ framed g)
+short_or true r g e = absurd cc
+short_or false r g e = (refl, e)
+
+short_no : (b : Bool) (r : Result (Option Header) PacketFault) → b ≡ false → cond b (Ok None) r ≡ r
+short_no true r e = absurd cc
+short_no false r e = refl
+
+tests_hold : (reserved small cut : Bool) (h : Header) → reserved ≡ false → small ≡ false → cut ≡ false → tested reserved small cut h ≡ framed h
+tests_hold reserved small cut h e1 e2 e3 = rw (e1, e2, e3) refl
+
+-- a header that passed its tests stands before its whole packet
+pub frame_ok : (b : List ℕ) (g : Header) → frame_read b ≡ framed g → IsFramed g b
+frame_ok b g e =
+    let h = header_of (word_at b 0) in
+    let one = short_or (ltb (length b) 8) (tests_of h (length b)) g e in
+    let p = tests_passed (is_reserved h.pkt_type) (ltb h.length (start_of h)) (ltb (length b) (wire_size_of h.length)) h g one.1 in
+    record {
+      read = p.same;
+      good = rw (← p.same) p.good;
+      start = rw (← p.same) (ltb-false _ _ p.long);
+      whole = rw (← p.same) (ltb-false _ _ p.whole);
+    }
+
+wire_long : (h : Header) (b : List ℕ) → IsFramed h b → 8 ≤ length b
+wire_long h b f = let long : 8 ≤ start_of h = omega arith in omega (arith, f.start, f.whole, long)
+
+pub frame_is : (b : List ℕ) (h : Header) → IsFramed h b → frame_read b ≡ framed h
+frame_is b h f =
+    let long : ltb (length b) 8 ≡ false = le-ltb _ _ (wire_long h b f) in
+    let start : ltb h.length (start_of h) ≡ false = le-ltb _ _ f.start in
+    let whole : ltb (length b) (wire_size_of h.length) ≡ false = le-ltb _ _ f.whole in
+    ap (λ (g : Header). cond (ltb (length b) 8) (Ok None) (tests_of g (length b))) f.read
+    ∙ short_no (ltb (length b) 8) (tests_of h (length b)) long
+    ∙ tests_hold (is_reserved h.pkt_type) (ltb h.length (start_of h)) (ltb (length b) (wire_size_of h.length)) h f.good start whole
+
+-- ---- what follows the packet
+
+slice-front : (x y : List ℕ) (i j : ℕ) → i ≤ j → j ≤ length x → slice_range (x ++ y) i j ≡ slice_range x i j
+slice-front x y i j order within =
+    let start : i ≤ length x = omega arith in
+    let long : j - i ≤ length (drop i x) = omega (arith, length-drop i x) in
+    ap (λ (z : List ℕ). take (j - i) z) (drop-append-le i x y start) ∙ take-append-le (j - i) (drop i x) y long
+
+time-front : (t : PktType) (x y : List ℕ) → 8 + type_time t ≤ length x → time_at t (x ++ y) ≡ time_at t x
+time-front types.Management x y le = refl
+time-front types.Status x y le = refl
+time-front types.Command x y le = refl
+time-front types.Control x y le = refl
+time-front types.Plain x y le = refl
+time-front types.Timed x y le = ap (λ (t : ℕ). Some t) (word_at-front x y 8 le)
+time-front (types.Reserved n) x y le = refl
+
+packed-front : (h : Header) (x y : List ℕ) (r : Result Body PacketFault) → words_at (x ++ y) (8 + type_time h.pkt_type) h.num_mdata ≡ words_at x (8 + type_time h.pkt_type) h.num_mdata
+    → packed h (x ++ y) r ≡ packed h x r
+packed-front h x y (Ok body) e = ap (λ (ws : List ℕ). packed_with h body ws) e
+packed-front h x y (Err fault) e = refl
+
+framed-front : (h : Header) (x y : List ℕ) → IsFramed h x → IsFramed h (x ++ y)
+framed-front h x y f =
+    let first : word_at (x ++ y) 0 ≡ word_at x 0 = word_at-front x y 0 (wire_long h x f) in
+    record { read = ap header_of first ∙ f.read; good = f.good; start = f.start; whole = omega (arith, f.whole, length-append x y) }
+
+pub read-front : (h : Header) (x y : List ℕ) → IsFramed h x → packet_read (x ++ y) ≡ packet_read x
+unfolding packet_read
+read-front h x y f =
+    let len : h.length ≤ length x = omega (arith, f.whole) in
+    let time : time_at h.pkt_type (x ++ y) ≡ time_at h.pkt_type x = time-front h.pkt_type x y (omega (arith, f.start, len)) in
+    let words : words_at (x ++ y) (8 + type_time h.pkt_type) h.num_mdata ≡ words_at x (8 + type_time h.pkt_type) h.num_mdata =
+    words_at-front h.num_mdata x y (8 + type_time h.pkt_type) (omega (arith, f.start, len)) in
+    let slice : slice_range (x ++ y) (start_of h) h.length ≡ slice_range x (start_of h) h.length = slice-front x y (start_of h) h.length f.start len in
+    ap (opened (x ++ y)) (frame_is (x ++ y) h (framed-front h x y f))
+    ∙ packed-front h x y (body_read h.pkt_type (time_at h.pkt_type (x ++ y)) (slice_range (x ++ y) (start_of h) h.length)) words
+    ∙ ap (λ (t : Option ℕ). packed h x (body_read h.pkt_type t (slice_range (x ++ y) (start_of h) h.length))) time
+    ∙ ap (λ (z : List ℕ). packed h x (body_read h.pkt_type (time_at h.pkt_type x) z)) slice
+    ∙ sym (ap (opened x) (frame_is x h f))
+
+-- ---- a packet that was read
+
+abbrev found : Packet → ℕ → Result (Option (Packet × ℕ)) PacketFault
+found p n = Ok (Some (p, n))
+
+-- the parts of a packet that was read
+pub record Found (b : List ℕ) (p : Packet) (n : ℕ) : Type 0 where
+  pub header : Header
+  pub framed_by : IsFramed header b
+  pub body : Body
+  pub body_is : body_read header.pkt_type (time_at header.pkt_type b) (slice_range b (start_of header) header.length) ≡ Ok body
+  pub packet : packet_of header b body ≡ p
+  pub size : wire_size_of header.length ≡ n
+
+packed_ok : (h : Header) (b : List ℕ) (r : Result Body PacketFault) (p : Packet) (n : ℕ) → packed h b r ≡ found p n → (body : Body) × (r ≡ Ok body) × (packet_of h b body ≡ p) × (wire_size_of h.length ≡ n)
+packed_ok h b (Ok body) p n e = (body, refl, ap (λ (r : Result (Option (Packet × ℕ)) PacketFault). the_packet p r) e, ap (λ (r : Result (Option (Packet × ℕ)) PacketFault). the_size n r) e)
+packed_ok h b (Err fault) p n e = absurd cc
+
+pub found_parts : (b : List ℕ) (p : Packet) (n : ℕ) → packet_read b ≡ found p n → Found b p n
+unfolding packet_read
+found_parts b p n e = cases (frame_read b) refl e
+  where
+    cases : (r : Result (Option Header) PacketFault) → frame_read b ≡ r → opened b r ≡ found p n → Found b p n
+    cases (Ok None) is e = absurd cc
+    cases (Ok (Some h)) is e =
+        let x = packed_ok h b (body_read h.pkt_type (time_at h.pkt_type b) (slice_range b (start_of h) h.length)) p n e in
+        record { header = h; framed_by = frame_ok b h is; body = x.0; body_is = x.1; packet = x.2; size = x.3 }
+    cases (Err fault) is e = absurd cc
+
+-- the packet's own bytes are enough
+pub read-take : (b : List ℕ) (p : Packet) (n : ℕ) → packet_read b ≡ found p n → (n ≤ length b) × (8 ≤ n) × (packet_read (take n b) ≡ found p n)
+read-take b p n e =
+    let f = found_parts b p n e in
+    let h = f.header in
+    let le : n ≤ length b = omega (arith, f.framed_by.whole, f.size) in
+    let long : 8 ≤ start_of h = omega arith in
+    let least : 8 ≤ n = omega (arith, f.framed_by.start, f.size, long) in
+    let x : List ℕ = take n b in
+    let len : length x ≡ n = omega (arith, length-take n b, le) in
+    let whole : x ++ drop n b ≡ b = take-append-drop n b in
+    let first : word_at b 0 ≡ word_at x 0 = ap (λ (z : List ℕ). word_at z 0) (sym whole) ∙ word_at-front x (drop n b) 0 (omega (arith, len, least)) in
+    let front : IsFramed h x = record { read = ap header_of (sym first) ∙ f.framed_by.read; good = f.framed_by.good; start = f.framed_by.start; whole = omega (arith, len, f.size) } in
+    (le, least, sym (read-front h x (drop n b) front) ∙ ap packet_read whole ∙ e)
+
+-- ---- what is read is spelled so
+
+pub record BodyIs (t : PktType) (time : Option ℕ) (payload : List ℕ) (body : Body) : Type 0 where
+  pub kind : body_type body ≡ t
+  pub timed : body_time body ≡ time
+  pub start : type_time t ≡ time_bytes (body_time body)
+  pub spelled : SpellsBody body payload
+
+abbrev fine : Body → Result Body PacketFault
+fine body = Ok body
+
+as_body_ok : {X : Type 0} (make : X → Body) (r : Result X MsgFault) (body : Body) → as_body make r ≡ fine body → (x : X) × (r ≡ Ok x) × (make x ≡ body)
+as_body_ok make (Ok x) body e = (x, refl, ap (λ (r : Result Body PacketFault). the_body body r) e)
+as_body_ok make (Err fault) body e = absurd cc
+
+-- ---- what a call answered
+
+pub gives_within : (b : List ℕ) (r : Result (Option (Packet × ℕ)) PacketFault) → Gives r (packet_read b) → IfOk r (λ found. IfSome found (λ x. (x.1 ≤ length b) × (8 ≤ x.1)))
+gives_within b (Ok None) g = tt
+gives_within b (Ok (Some x)) g = let t = read-take b x.0 x.1 g in (t.0, t.1)
+gives_within b (Err fault) g = tt

@@ -1,0 +1,249 @@
+//! The packet at the front of bytes.
+ghost use Rattle.std.specs.Prelude.{◌≡◌, ◌+◌, ◌*◌, ◌≤◌, ◌==◌, false, length, slice_range, Some, None, Ok, IfOk, IfSome, take, List, ℕ, IsTrue, IfNone, Option};
+ghost use Rattle.std.specs.List.{list_all};
+ghost use Rattle.chdr_words.specs.Field.{words_at};
+ghost use Rattle.chdr_words.specs.Wire.{wire_size_of};
+ghost use Rattle.chdr_packets.specs.Grammar.{Spells, is_plain, payload_plain, plain_under, start_of, type_time};
+ghost use Rattle.chdr_packets.specs.Reading.{Gives, IsFaultOf, IsFramed, IsSized, body_read, frame_read, is_reserved, opened, packed, packet_read, passed, time_at};
+
+use crate::fault::PacketFault;
+use crate::packet::{Body, Packet};
+use chdr_words::{
+    Bytes, Header, MsgFault, PktType, Word, WordList, decode_command, decode_control,
+    decode_management, decode_status, is_control, is_management, is_plain_control, wire_size,
+    word_at,
+};
+use rf_base::{Items, Memory};
+use std::alloc::Global;
+
+fn type_time(pkt_type: PktType) -> usize
+    ensures { result ≡ type_time pkt_type }
+{
+    match pkt_type {
+        PktType::Management
+        | PktType::Status
+        | PktType::Command
+        | PktType::Control
+        | PktType::Plain
+        | PktType::Reserved(_) => 0,
+        PktType::Timed => 8,
+    }
+}
+
+fn start_of(header: &Header) -> usize
+    ensures { result ≡ start_of header.now }
+{
+    8 + type_time(header.pkt_type) + 8 * header.num_mdata as usize
+}
+
+fn is_reserved(pkt_type: PktType) -> bool
+    ensures { result ≡ is_reserved pkt_type }
+{
+    match pkt_type {
+        PktType::Management
+        | PktType::Status
+        | PktType::Command
+        | PktType::Control
+        | PktType::Plain
+        | PktType::Timed => false,
+        PktType::Reserved(_) => true,
+    }
+}
+
+/// The header of the packet at the front, where its tests pass and the whole packet is there.
+fn frame(b: &[u8]) -> Result<Option<Header>, PacketFault>
+    ensures reads { result ≡ frame_read b.now }
+    ensures framed { IfOk result (λ found. IfSome found (λ header. IsFramed header b.now)) }
+{
+    if b.len() < 8 {
+        return Ok(None);
+    }
+    let header = Header::read(Word(word_at(b, 0)));
+    if is_reserved(header.pkt_type) {
+        return Err(PacketFault::ReservedType);
+    }
+    if (header.length as usize) < start_of(&header) {
+        return Err(PacketFault::BadLength);
+    }
+    if b.len() < wire_size(header.length) as usize {
+        return Ok(None);
+    }
+    Ok(Some(header))
+}
+
+fn time_of(pkt_type: PktType, b: &[u8]) -> Option<u64>
+    requires { 8 + type_time pkt_type ≤ length b.now }
+    ensures { result ≡ time_at pkt_type b.now }
+{
+    match pkt_type {
+        PktType::Management
+        | PktType::Status
+        | PktType::Command
+        | PktType::Control
+        | PktType::Plain
+        | PktType::Reserved(_) => None,
+        PktType::Timed => Some(word_at(b, 8)),
+    }
+}
+
+#[tactic(auto, using(chdr_words::proofs::WordLemmas::more))]
+fn mdata_of(alloc: Global, b: &[u8], at: usize, count: usize) -> Result<WordList, Memory>
+    requires { at + 8 * count ≤ length b.now }
+    ensures { IfOk result (λ mdata. mdata ≡ words_at b.now at count) }
+{
+    let mut mdata = Items::new(alloc);
+    for k in 0..count {
+        mdata.push(word_at(b, at + 8 * k))?;
+    }
+    Ok(mdata)
+}
+
+fn management_of(alloc: Global, payload: &[u8]) -> Result<Body, PacketFault>
+    ensures { Gives result (body_read PktType.Management None payload.now) }
+{
+    match decode_management(alloc, payload) {
+        Ok(management) => Ok(Body::Management(management)),
+        Err(MsgFault::Memory) => Err(PacketFault::Memory),
+        Err(fault) => Err(PacketFault::Message(fault)),
+    }
+}
+
+fn copy_of(alloc: Global, payload: &[u8]) -> Result<Bytes, Memory>
+    ensures { IfOk result (λ bytes. bytes ≡ payload.now) }
+{
+    Ok(Items::from_vec(Vec::from_slice(alloc, payload)?))
+}
+
+fn body_of(
+    alloc: Global,
+    pkt_type: PktType,
+    time: Option<u64>,
+    payload: &[u8],
+) -> Result<Body, PacketFault>
+    ensures { Gives result (body_read pkt_type time payload.now) }
+{
+    match pkt_type {
+        PktType::Management => management_of(alloc, payload),
+        PktType::Status => match decode_status(payload) {
+            Ok(status) => Ok(Body::Status(status)),
+            Err(fault) => Err(PacketFault::Message(fault)),
+        },
+        PktType::Command => match decode_command(payload) {
+            Ok(command) => Ok(Body::Command(command)),
+            Err(fault) => Err(PacketFault::Message(fault)),
+        },
+        PktType::Control => match decode_control(payload) {
+            Ok(control) => Ok(Body::Control(control)),
+            Err(fault) => Err(PacketFault::Message(fault)),
+        },
+        PktType::Plain | PktType::Timed => Ok(Body::Samples {
+            time,
+            payload: copy_of(alloc, payload)?,
+        }),
+        PktType::Reserved(_) => Err(PacketFault::ReservedType),
+    }
+}
+
+#[tactic(auto, unfolding(crate::specs::Reading::packet_read))]
+fn read(alloc: Global, b: &[u8]) -> Result<Option<(Packet, usize)>, PacketFault>
+    ensures { Gives result (packet_read b.now) }
+{
+    let header = match frame(b)? {
+        None => return Ok(None),
+        Some(header) => header,
+    };
+    let time = time_of(header.pkt_type, b);
+    let payload = &b[start_of(&header)..header.length as usize];
+    let body = body_of(alloc, header.pkt_type, time, payload)?;
+    let mdata = mdata_of(
+        alloc,
+        b,
+        8 + type_time(header.pkt_type),
+        header.num_mdata as usize,
+    )?;
+    let packet = Packet {
+        vc: header.vc,
+        eob: header.eob,
+        eov: header.eov,
+        seq: header.seq,
+        dst: header.dst,
+        mdata,
+        body,
+    };
+    Ok(Some((packet, wire_size(header.length) as usize)))
+}
+
+/// The packet at the front of the bytes and its size, or `None` where it isn't there whole yet.
+///
+/// The tests come in the order type, Length, size, payload.
+/// Rule: docs/wire-format.md, "Packets".
+pub fn decode(alloc: Global, b: &[u8]) -> Result<Option<(Packet, usize)>, PacketFault>
+    ensures exact { Gives result (packet_read b.now) }
+    ensures within { IfOk result (λ found. IfSome found (λ x. (x.1 ≤ length b.now) × (8 ≤ x.1))) }
+{
+    read(alloc, b)
+}
+
+fn is_zero(bytes: &[u8]) -> bool
+    ensures { result ≡ list_all (λ byte. byte == 0) bytes.now }
+{
+    bytes.iter().all(|byte| *byte == 0)
+}
+
+fn payload_fault(pkt_type: PktType, payload: &[u8]) -> Option<PacketFault>
+    ensures fault { (time : Option ℕ) → IsFaultOf result (body_read pkt_type time payload.now) }
+    ensures sized { IfNone result (IsSized pkt_type payload.now) }
+{
+    match pkt_type {
+        PktType::Management if !is_management(payload) => {
+            Some(PacketFault::Message(MsgFault::BadManagement))
+        }
+        PktType::Status if payload.len() != 32 => {
+            Some(PacketFault::Message(MsgFault::BadStatusLength))
+        }
+        PktType::Command if payload.len() != 16 => {
+            Some(PacketFault::Message(MsgFault::BadCommandLength))
+        }
+        PktType::Control if !is_control(payload) => {
+            Some(PacketFault::Message(MsgFault::BadControlLength))
+        }
+        PktType::Reserved(_) => Some(PacketFault::ReservedType),
+        PktType::Management
+        | PktType::Status
+        | PktType::Command
+        | PktType::Control
+        | PktType::Plain
+        | PktType::Timed => None,
+    }
+}
+
+fn is_plain_payload(pkt_type: PktType, payload: &[u8]) -> bool
+    requires { IsSized pkt_type payload.now }
+    ensures { result ≡ payload_plain pkt_type payload.now }
+{
+    match pkt_type {
+        PktType::Management => word_at(payload, 0) / (1 << 26) % (1 << 19) == 0,
+        PktType::Status => word_at(payload, 0) / (1 << 20) % (1 << 4) == 0,
+        PktType::Control => is_plain_control(payload),
+        PktType::Command | PktType::Plain | PktType::Timed | PktType::Reserved(_) => true,
+    }
+}
+
+/// What `decode` finds, of which only the size and whether the bytes are canonical; it takes no memory.
+#[tactic(auto, unfolding(crate::specs::Reading::packet_read))]
+pub fn pass(b: &[u8]) -> Result<Option<(usize, bool)>, PacketFault>
+    ensures { result ≡ passed b.now (packet_read b.now) }
+{
+    let header = match frame(b)? {
+        None => return Ok(None),
+        Some(header) => header,
+    };
+    let size = wire_size(header.length) as usize;
+    let payload = &b[start_of(&header)..header.length as usize];
+    if let Some(fault) = payload_fault(header.pkt_type, payload) {
+        return Err(fault);
+    }
+    let plain = is_plain_payload(header.pkt_type, payload)
+        && is_zero(&b[header.length as usize..size]);
+    Ok(Some((size, plain)))
+}

@@ -1,0 +1,25 @@
+ghost use Rattle.std.specs.Prelude.{◌≡◌};
+ghost use Rattle.chdr_packets.specs.declared.fault.PacketFault.TheVariants as faults;
+
+use chdr_words::MsgFault;
+use rf_base::Memory;
+
+/// Why there is no packet at the front of bytes, by the first test that fails.
+#[derive(Clone, Copy, Debug, PartialEq, Eq)]
+pub enum PacketFault {
+    /// The type is 3 or 5.
+    ReservedType,
+    /// Length is shorter than header, timestamp and metadata.
+    BadLength,
+    /// The payload is no spelling of its kind.
+    Message(MsgFault),
+    Memory,
+}
+
+impl From<Memory> for PacketFault {
+    ghost from_gives = { λ _ e. e ≡ faults.Memory };
+
+    fn from(_: Memory) -> PacketFault {
+        PacketFault::Memory
+    }
+}
