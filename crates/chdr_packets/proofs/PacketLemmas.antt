@@ -1,6 +1,7 @@
 -- The packet at the front of bytes: what is read is spelled so, what is spelled so is read, and what follows doesn't matter.
-use Rattle.std.proofs.Common.{◌≡◌, ℕ, zero, suc, ◌+◌, ◌-◌, ◌*◌, ◌/◌, ◌<◌, ◌≤◌, ◌⊎◌, inl, inr, Bool, true, false, cond, ltb, List, [], ◌∷◌, ◌++◌, length, get_or, take, drop, Option, None, Some, Result, Ok, Err, refl, sym, ap, subst, ◌∙◌, arith}
-use Rattle.std.specs.Prelude.{IfSome, IfOk, slice_range}
+use Rattle.std.proofs.Common.{eqb, ◌≡◌, ℕ, zero, suc, ◌+◌, ◌-◌, ◌*◌, ◌/◌, ◌<◌, ◌≤◌, ◌⊎◌, inl, inr, Bool, true, false, cond, ltb, List, [], ◌∷◌, ◌++◌, length, get_or, take, drop, Option, None, Some, Result, Ok, Err, refl, sym, ap, subst, ◌∙◌, arith}
+use Rattle.std.specs.Prelude.{IfSome, IfOk, slice_range, ◌&&◌}
+use Rattle.std.specs.List.{list_all}
 use Rattle.std.proofs.lemmas.Bool.{ltb-true, ltb-false, le-ltb}
 use Rattle.std.proofs.lemmas.List.{take-append-drop, length-take, length-append, drop-append-le, take-append-le, length-drop, get_or-drop}
 use Rattle.chdr_words.specs.Field.{word_at, words_at}
@@ -26,8 +27,8 @@ use Rattle.chdr_packets.specs.declared.fault.PacketFault.TheVariants.{ReservedTy
 use Rattle.chdr_packets.specs.declared.packet.Packet.{Packet}
 use Rattle.chdr_packets.specs.declared.packet.Body.{Body}
 use Rattle.chdr_packets.specs.declared.packet.Body.TheVariants as bodies
-use Rattle.chdr_packets.specs.Grammar.{body_time, body_type, samples_type, header_for, SpellsBody, mdata_start, payload_start, Spells, type_time, start_of}
-use Rattle.chdr_packets.specs.Reading.{Gives, is_reserved, tests_of, frame_read, as_body, time_at, body_read, packet_of, packed, opened, packet_read, IsFramed}
+use Rattle.chdr_packets.specs.Grammar.{payload_plain, plain_under, is_plain, body_time, body_type, samples_type, header_for, SpellsBody, mdata_start, payload_start, Spells, type_time, start_of}
+use Rattle.chdr_packets.specs.Reading.{Gives, is_reserved, tests_of, frame_read, as_body, time_at, body_read, packet_of, packed, opened, packet_read, passed, IsFramed}
 
 abbrev the_body : Body → Result Body PacketFault → Body
 the_body other (Ok body) = body
@@ -50,6 +51,9 @@ packed_with h body ws = Ok (Some (record { vc = h.vc; eob = h.eob; eov = h.eov; 
 
 abbrev framed : Header → Result (Option Header) PacketFault
 framed h = Ok (Some h)
+
+abbrev nothing : Result (Option Header) PacketFault
+nothing = Ok None
 
 abbrev tested : Bool → Bool → Bool → Header → Result (Option Header) PacketFault
 tested reserved small cut h = cond reserved (Err ReservedType) (cond small (Err BadLength) (cond cut (Ok None) (Ok (Some h))))
@@ -145,7 +149,7 @@ read-front h x y f =
 
 -- ---- a packet that was read
 
-abbrev found : Packet → ℕ → Result (Option (Packet × ℕ)) PacketFault
+abbrev pub found : Packet → ℕ → Result (Option (Packet × ℕ)) PacketFault
 found p n = Ok (Some (p, n))
 
 -- the parts of a packet that was read
@@ -208,3 +212,118 @@ pub gives_within : (b : List ℕ) (r : Result (Option (Packet × ℕ)) PacketFau
 gives_within b (Ok None) g = tt
 gives_within b (Ok (Some x)) g = let t = read-take b x.0 x.1 g in (t.0, t.1)
 gives_within b (Err fault) g = tt
+
+-- ---- what follows doesn't change what was found
+
+pub read_more : (x y : List ℕ) (p : Packet) (n : ℕ) → packet_read x ≡ found p n → packet_read (x ++ y) ≡ found p n
+read_more x y p n e = let f = found_parts x p n e in read-front f.header x y f.framed_by ∙ e
+
+-- less than a packet is short
+pub none_few : (b : List ℕ) → packet_read b ≡ Ok None → length b < 65536
+unfolding packet_read
+none_few b e = frames (frame_read b) refl e
+  where
+    packed_some : (h : Header) (r : Result Body PacketFault) → packed h b r ≡ Ok None → length b < 65536
+    packed_some h (Ok body) e = absurd cc
+    packed_some h (Err fault) e = absurd cc
+
+    header_few : (reserved small cut short : Bool) (h : Header) → h.length < 65536 → ltb (length b) 8 ≡ short → ltb (length b) (wire_size_of h.length) ≡ cut
+        → cond short (Ok None) (tested reserved small cut h) ≡ nothing → length b < 65536
+    header_few reserved small cut true h wide e f g = omega (arith, ltb-true (length b) 8 e)
+    header_few true small cut false h wide e f g = absurd cc
+    header_few false true cut false h wide e f g = absurd cc
+    header_few false false true false h wide e f g = omega (arith, ltb-true (length b) (wire_size_of h.length) f)
+    header_few false false false false h wide e f g = absurd cc
+
+    frames : (r : Result (Option Header) PacketFault) → frame_read b ≡ r → opened b r ≡ Ok None → length b < 65536
+    frames (Ok None) is e =
+        let h = header_of (word_at b 0) in
+        header_few (is_reserved h.pkt_type) (ltb h.length (start_of h)) (ltb (length b) (wire_size_of h.length)) (ltb (length b) 8) h (omega arith) refl refl is
+    frames (Ok (Some h)) is e = packed_some h (body_read h.pkt_type (time_at h.pkt_type b) (slice_range b (start_of h) h.length)) e
+    frames (Err fault) is e = absurd cc
+
+pub gives_few : (b : List ℕ) (r : Result (Option (Packet × ℕ)) PacketFault) → Gives r (packet_read b) → r ≡ Ok None → length b < 65536
+gives_few b (Ok None) g e = none_few b g
+gives_few b (Ok (Some x)) g e = absurd cc
+gives_few b (Err fault) g e = absurd cc
+
+pub passed_within : (b : List ℕ) (r : Result (Option (ℕ × Bool)) PacketFault) → r ≡ passed b (packet_read b) → IfOk r (λ found. IfSome found (λ x. (x.0 ≤ length b) × (8 ≤ x.0)))
+passed_within b r e = subst (λ (x : Result (Option (ℕ × Bool)) PacketFault). IfOk x (λ found. IfSome found (λ x. (x.0 ≤ length b) × (8 ≤ x.0)))) (sym e) (cases (packet_read b) refl)
+  where
+    cases : (r : Result (Option (Packet × ℕ)) PacketFault) → packet_read b ≡ r → IfOk (passed b r) (λ found. IfSome found (λ x. (x.0 ≤ length b) × (8 ≤ x.0)))
+    cases (Ok None) is = tt
+    cases (Ok (Some x)) is = let t = read-take b x.0 x.1 is in (t.0, t.1)
+    cases (Err fault) is = tt
+
+pub passed_few : (b : List ℕ) (r : Result (Option (ℕ × Bool)) PacketFault) → r ≡ passed b (packet_read b) → r ≡ Ok None → length b < 65536
+passed_few b r e none = cases (packet_read b) refl (sym e ∙ none)
+  where
+    cases : (r : Result (Option (Packet × ℕ)) PacketFault) → packet_read b ≡ r → passed b r ≡ Ok None → length b < 65536
+    cases (Ok None) is none = none_few b is
+    cases (Ok (Some x)) is none = absurd cc
+    cases (Err fault) is none = absurd cc
+
+-- ---- faults and canonical bytes don't change either
+
+plain-slices : (t : PktType) (a b c d : List ℕ) → a ≡ b → c ≡ d → (payload_plain t a && list_all (λ byte. eqb byte 0) c) ≡ (payload_plain t b && list_all (λ byte. eqb byte 0) d)
+plain-slices t a b c d e f = ap (λ (x : List ℕ). payload_plain t x && list_all (λ byte. eqb byte 0) c) e ∙ ap (λ (x : List ℕ). payload_plain t b && list_all (λ byte. eqb byte 0) x) f
+
+pub plain_more : (x y : List ℕ) (p : Packet) (n : ℕ) → packet_read x ≡ found p n → is_plain (x ++ y) ≡ is_plain x
+plain_more x y p n e =
+    let f = found_parts x p n e in
+    let h = f.header in
+    let first : word_at (x ++ y) 0 ≡ word_at x 0 = word_at-front x y 0 (wire_long h x f.framed_by) in
+    let len : h.length ≤ length x = omega (arith, f.framed_by.whole) in
+    let wire : h.length ≤ wire_size_of h.length = omega arith in
+    ap (λ (w : ℕ). plain_under (header_of w) (x ++ y)) first
+    ∙ ap (λ (g : Header). plain_under g (x ++ y)) f.framed_by.read
+    ∙ plain-slices h.pkt_type _ _ _ _ (slice-front x y (start_of h) h.length f.framed_by.start len) (slice-front x y h.length (wire_size_of h.length) wire f.framed_by.whole)
+    ∙ sym (ap (λ (g : Header). plain_under g x) f.framed_by.read)
+
+abbrev fault_of : PacketFault → Result (Option Header) PacketFault
+fault_of fault = Err fault
+
+abbrev failed : PacketFault → Result (Option (Packet × ℕ)) PacketFault
+failed fault = Err fault
+
+-- where the header's tests fail they fail whatever follows
+tests_more : (reserved small cut short cut' short' : Bool) (h : Header) (fault : PacketFault) → short' ≡ short → cond short (Ok None) (tested reserved small cut h) ≡ fault_of fault
+    → cond short' (Ok None) (tested reserved small cut' h) ≡ fault_of fault
+tests_more reserved small cut true cut' short' h fault s e = absurd cc
+tests_more true small cut false cut' short' h fault s e = rw s e
+tests_more false true cut false cut' short' h fault s e = rw s e
+tests_more false false true false cut' short' h fault s e = absurd cc
+tests_more false false false false cut' short' h fault s e = absurd cc
+
+not_short : (reserved small cut short : Bool) (h : Header) (fault : PacketFault) → cond short (Ok None) (tested reserved small cut h) ≡ fault_of fault → short ≡ false
+not_short reserved small cut true h fault e = absurd cc
+not_short reserved small cut false h fault e = refl
+
+frame_more : (x y : List ℕ) (fault : PacketFault) → frame_read x ≡ fault_of fault → frame_read (x ++ y) ≡ fault_of fault
+frame_more x y fault e =
+    let h = header_of (word_at x 0) in
+    let long = not_short (is_reserved h.pkt_type) (ltb h.length (start_of h)) (ltb (length x) (wire_size_of h.length)) (ltb (length x) 8) h fault e in
+    let le : 8 ≤ length x = ltb-false _ _ long in
+    let first : word_at (x ++ y) 0 ≡ word_at x 0 = word_at-front x y 0 le in
+    let short : ltb (length (x ++ y)) 8 ≡ ltb (length x) 8 = le-ltb _ _ (omega (arith, length-append x y, le)) ∙ sym long in
+    ap (λ (w : ℕ). cond (ltb (length (x ++ y)) 8) (Ok None) (tests_of (header_of w) (length (x ++ y)))) first
+    ∙ tests_more (is_reserved h.pkt_type) (ltb h.length (start_of h)) (ltb (length x) (wire_size_of h.length)) (ltb (length x) 8)
+    (ltb (length (x ++ y)) (wire_size_of h.length)) (ltb (length (x ++ y)) 8) h fault short e
+
+same_fault : (a b : PacketFault) → failed a ≡ failed b → a ≡ b
+same_fault a b e = cc
+
+pub fails_more : (x y : List ℕ) (fault : PacketFault) → packet_read x ≡ failed fault → packet_read (x ++ y) ≡ failed fault
+unfolding packet_read
+fails_more x y fault e = cases (frame_read x) refl e
+  where
+    cases : (r : Result (Option Header) PacketFault) → frame_read x ≡ r → opened x r ≡ failed fault → packet_read (x ++ y) ≡ failed fault
+    cases (Ok None) is e = absurd cc
+    cases (Ok (Some h)) is f = read-front h x y (frame_ok x h is) ∙ e
+    cases (Err other) is e =
+        let o : other ≡ fault = same_fault other fault e in
+        ap (opened (x ++ y)) (frame_more x y other is) ∙ ap failed o
+
+pub nothing_read : (fault : PacketFault) → packet_read [] ≡ failed fault → ⊥
+unfolding packet_read
+nothing_read fault e = absurd cc

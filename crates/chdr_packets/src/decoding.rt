@@ -1,5 +1,5 @@
 //! The packet at the front of bytes.
-ghost use Rattle.std.specs.Prelude.{◌≡◌, ◌+◌, ◌*◌, ◌≤◌, ◌==◌, false, length, slice_range, Some, None, Ok, IfOk, IfSome, take, List, ℕ, IsTrue, IfNone, Option};
+ghost use Rattle.std.specs.Prelude.{◌≡◌, ◌+◌, ◌*◌, ◌≤◌, ◌==◌, false, ◌<◌, length, slice_range, Some, None, Ok, IfOk, IfSome, take, List, ℕ, IsTrue, IfNone, Option};
 ghost use Rattle.std.specs.List.{list_all};
 ghost use Rattle.chdr_words.specs.Field.{words_at};
 ghost use Rattle.chdr_words.specs.Wire.{wire_size_of};
@@ -180,6 +180,7 @@ fn read(alloc: Global, b: &[u8]) -> Result<Option<(Packet, usize)>, PacketFault>
 pub fn decode(alloc: Global, b: &[u8]) -> Result<Option<(Packet, usize)>, PacketFault>
     ensures exact { Gives result (packet_read b.now) }
     ensures within { IfOk result (λ found. IfSome found (λ x. (x.1 ≤ length b.now) × (8 ≤ x.1))) }
+    ensures few { result ≡ Ok None → length b.now < 65536 }
 {
     read(alloc, b)
 }
@@ -229,9 +230,8 @@ fn is_plain_payload(pkt_type: PktType, payload: &[u8]) -> bool
     }
 }
 
-/// What `decode` finds, of which only the size and whether the bytes are canonical; it takes no memory.
 #[tactic(auto, unfolding(crate::specs::Reading::packet_read))]
-pub fn pass(b: &[u8]) -> Result<Option<(usize, bool)>, PacketFault>
+fn scan(b: &[u8]) -> Result<Option<(usize, bool)>, PacketFault>
     ensures { result ≡ passed b.now (packet_read b.now) }
 {
     let header = match frame(b)? {
@@ -246,4 +246,23 @@ pub fn pass(b: &[u8]) -> Result<Option<(usize, bool)>, PacketFault>
     let plain = is_plain_payload(header.pkt_type, payload)
         && is_zero(&b[header.length as usize..size]);
     Ok(Some((size, plain)))
+}
+
+/// What `decode` finds, of which only the size and whether the bytes are canonical; it takes no memory.
+pub fn pass(b: &[u8]) -> Result<Option<(usize, bool)>, PacketFault>
+    ensures exact { result ≡ passed b.now (packet_read b.now) }
+    ensures within { IfOk result (λ found. IfSome found (λ x. (x.0 ≤ length b.now) × (8 ≤ x.0))) }
+    ensures few { result ≡ Ok None → length b.now < 65536 }
+{
+    scan(b)
+}
+
+/// Whether the bytes of the packet at the front are its canonical spelling.
+pub fn is_canonical(b: &[u8]) -> bool
+    ensures { (p : Packet) (n : ℕ) → packet_read b.now ≡ Ok (Some (p, n)) → result ≡ is_plain b.now }
+{
+    match pass(b) {
+        Ok(Some((_, canonical))) => canonical,
+        Ok(None) | Err(_) => false,
+    }
 }

@@ -6,7 +6,7 @@ mod fault;
 mod length;
 mod packet;
 
-pub use decoding::{decode, pass};
+pub use decoding::{decode, is_canonical, pass};
 pub use fault::PacketFault;
 pub use packet::{Body, Packet, PacketList};
 

@@ -1,0 +1,145 @@
+ghost use Rattle.std.specs.Prelude.{◌≡◌, ℕ, ◌+◌, ◌<◌, ◌≤◌, ◌^◌, ◌↔◌, ◌++◌, [], drop, length, Ok, None, Some, OnOk, OnErr, IfOk, IsErr};
+ghost use Rattle.chdr_packets.specs.Reading.{packet_read};
+ghost use Rattle.chdr_stream.specs.Stream.{Answers, after, fed_with, passing_at, reading};
+
+use crate::placed::{FinishFault, Passed, Placed, StreamFault};
+use chdr_packets::{PacketFault, decode, is_canonical, pass};
+use rf_base::Memory;
+use std::alloc::Global;
+use std::marker::Model;
+
+/// Takes bytes in pieces and gives packets.
+///
+/// It keeps one vector and a place in it: what is passed is let go at the next `feed`.
+/// Rule: docs/wire-format.md, "Captures".
+#[derive(Debug, Drop)]
+pub struct Decoder {
+    bytes: Vec<u8>,
+    start: usize,
+    at: u64,
+    fault: Option<PacketFault>,
+}
+
+impl Model for Decoder {
+    ghost use Rattle.std.specs.Prelude.{◌≤◌, drop, vec_len};
+    ghost use Rattle.chdr_stream.specs.Stream.{Stream};
+
+    ghost Value = { Stream };
+
+    ghost view = { λ d. record { at = d.at; kept = drop d.start d.bytes.items; fault = d.fault } };
+
+    ghost invariant = { λ d. d.start ≤ vec_len d.bytes };
+}
+
+fn joined(alloc: Global, kept: &[u8], piece: &[u8]) -> Result<Vec<u8>, Memory>
+    requires { length kept.now + length piece.now < 2 ^ 64 }
+    ensures { IfOk result (λ made. made.items ≡ kept.now ++ piece.now) }
+{
+    let mut made = Vec::with_capacity(alloc, kept.len() + piece.len())?;
+    made.extend_from_slice(kept)?;
+    made.extend_from_slice(piece)?;
+    Ok(made)
+}
+
+impl Decoder {
+    pub fn new(alloc: Global) -> Decoder
+        ensures { result ≡ record { at = 0; kept = []; fault = None } }
+    {
+        Decoder {
+            bytes: Vec::new(alloc),
+            start: 0,
+            at: 0,
+            fault: None,
+        }
+    }
+
+    /// Appends the piece; at a fault it changes nothing.
+    pub fn feed(&mut self, piece: &[u8]) -> Result<(), Memory>
+        requires { self.old.at + length self.old.kept + length piece.now < 2 ^ 64 }
+        ensures ok { OnOk result (self.new ≡ fed_with self.old piece.now) }
+        ensures err { OnErr result (self.new ≡ self.old) }
+    {
+        if self.fault.is_some() {
+            return Ok(());
+        }
+        if self.start == 0 {
+            self.bytes.extend_from_slice(piece)?;
+            return Ok(());
+        }
+        self.bytes = joined(*self.bytes.allocator(), &self.bytes[self.start..], piece)?;
+        self.start = 0;
+        Ok(())
+    }
+
+    /// The next packet; `None` where its bytes aren't all there, and again the same fault where it has one.
+    pub fn next(&mut self) -> Result<Option<Placed>, StreamFault>
+        requires { self.old.at + length self.old.kept < 2 ^ 64 }
+        ensures answers { Answers self.old self.new result }
+        ensures few { result ≡ Ok None → length self.new.kept < 65536 }
+    {
+        if let Some(fault) = self.fault {
+            return Err(StreamFault::Bad { at: self.at, fault });
+        }
+        let kept = &self.bytes[self.start..];
+        match decode(*self.bytes.allocator(), kept) {
+            Ok(None) => Ok(None),
+            Ok(Some((packet, size))) => {
+                let canonical = is_canonical(kept);
+                let placed = Placed {
+                    at: self.at,
+                    canonical,
+                    packet,
+                };
+                self.start += size;
+                self.at += size as u64;
+                Ok(Some(placed))
+            }
+            Err(PacketFault::Memory) => Err(StreamFault::Memory),
+            Err(fault) => {
+                self.fault = Some(fault);
+                Err(StreamFault::Bad { at: self.at, fault })
+            }
+        }
+    }
+
+    /// As `next`, and tells only the packet's place and whether it is canonical; it takes no memory.
+    pub fn pass(&mut self) -> Result<Option<Passed>, StreamFault>
+        requires { self.old.at + length self.old.kept < 2 ^ 64 }
+        ensures answers { result ≡ passing_at self.old (reading self.old) }
+        ensures moves { self.new ≡ after self.old (reading self.old) }
+        ensures few { result ≡ Ok None → length self.new.kept < 65536 }
+    {
+        if let Some(fault) = self.fault {
+            return Err(StreamFault::Bad { at: self.at, fault });
+        }
+        match pass(&self.bytes[self.start..]) {
+            Ok(None) => Ok(None),
+            Ok(Some((size, canonical))) => {
+                let passed = Passed {
+                    at: self.at,
+                    canonical,
+                };
+                self.start += size;
+                self.at += size as u64;
+                Ok(Some(passed))
+            }
+            Err(fault) => {
+                self.fault = Some(fault);
+                Err(StreamFault::Bad { at: self.at, fault })
+            }
+        }
+    }
+
+    /// Whether the stream ends here: no bytes are left.
+    pub fn finish(&self) -> Result<(), FinishFault>
+        requires { reading self.now ≡ Ok None }
+        ensures truncated { IsErr result ↔ (0 < length self.now.kept) }
+        ensures place { (at : ℕ) → result ≡ Err (FinishFault.Truncated at) → at ≡ self.now.at }
+    {
+        if self.start < self.bytes.len() {
+            Err(FinishFault::Truncated { at: self.at })
+        } else {
+            Ok(())
+        }
+    }
+}
