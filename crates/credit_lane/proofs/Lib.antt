@@ -5,3 +5,4 @@ pub mod Taking
 pub mod Seats
 pub mod Ends
 pub mod Laws
+pub mod Produced

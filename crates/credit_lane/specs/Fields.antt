@@ -4,7 +4,7 @@ use Rattle.credit_lane.specs.declared.lane.Lane.TheInside as lane
 use Rattle.credit_lane.specs.declared.rx.LaneRx.TheInside as rx
 use Rattle.credit_lane.specs.declared.tx.LaneTx.TheInside as tx
 use Rattle.credit_lane.specs.Held.{HasRoom, IsWhole, Puts, Takes}
-use Rattle.credit_lane.specs.Sides.{LaneId, Unsplit, PutSide, TakeSide}
+use Rattle.credit_lane.specs.Sides.{Unsplit, PutSide, TakeSide}
 
 abbrev pub unsplit : lane.Inside → Unsplit
 unsplit l = record {

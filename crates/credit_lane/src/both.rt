@@ -20,6 +20,7 @@ pub fn meet(tx: &mut LaneTx<'_>, rx: &mut LaneRx<'_>)
     ensures order { IsPrefix rx.old.got tx.old.put }
     ensures near { length tx.old.put ≤ length rx.old.got + tx.old.lane.room }
     ensures rises { (tx.old.taken ≤ tx.new.taken) × IsPrefix rx.old.known rx.new.known }
+    ensures plan { IsPlanned tx.old.lane.plan tx.old.put }
     ensures lane { (tx.new.lane ≡ tx.old.lane) × (rx.new.lane ≡ rx.old.lane) }
     ensures kept { (tx.new.put ≡ tx.old.put) × (rx.new.got ≡ rx.old.got) }
 {

@@ -43,6 +43,8 @@ impl LaneRx<'_> {
         ensures next { slice_get self.old.known (length self.old.got) ≡ Some result }
         ensures got { self.new.got ≡ self.old.got ++ result ∷ [] }
         ensures plan { IsNext self.old.lane.plan self.old.got result }
+        ensures order { IsPrefix self.new.got self.new.known }
+        ensures planned { IsPlanned self.new.lane.plan self.new.got }
         ensures lane { self.new.lane ≡ self.old.lane }
         ensures kept { self.new.known ≡ self.old.known }
     {
@@ -63,7 +65,8 @@ impl LaneRx<'_> {
         ensures lane { self.new.lane ≡ self.old.lane }
         ensures kept { self.new.got ≡ self.old.got }
     {
-        self.put = self.table.shared.load::<SeePut>(&mut self.seat, PUT);
-        self.put
+        let put = self.table.shared.load::<SeePut>(&mut self.seat, PUT);
+        self.put = put;
+        put
     }
 }

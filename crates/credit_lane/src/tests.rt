@@ -1,13 +1,15 @@
-ghost use Rattle.std.specs.Prelude.{◌≡◌, ◌^◌, ◌<◌, ◌≤◌, length};
-ghost use Rattle.credit_lane.specs.declared.plan.LanePlan.TheVariants.{Any};
+ghost use Rattle.std.specs.Prelude.{◌≡◌, ◌+◌, ◌^◌, ◌<◌, ◌≤◌, length, true, OnOk};
+ghost use Rattle.block_library.specs.Producer.{FitsPlan};
+ghost use Rattle.credit_lane.specs.declared.plan.LanePlan.TheVariants.{Any, Producer};
 
 use crate::{Lane, LaneEnd, LanePlan, LaneRx, LaneTx, close, meet};
 use block_library::TxPlan;
 use chdr_packets::{Body, Packet};
 use chdr_words::{Bytes, Epid, WordList};
+use rf_base::Memory;
 use std::alloc::Global;
 use std::test::Fail;
-use std::thread::{Threads, join_mut};
+use std::thread::{Threads, join, join_mut};
 
 /// A packet that tells its number, modulo 2^16.
 fn numbered(alloc: Global, number: u64) -> Packet {
@@ -162,5 +164,65 @@ fn the_least_and_the_most_room(rt: HostRuntime) -> Result<(), Fail> {
             }
         );
     }
+    Ok(())
+}
+
+/// Puts packet `k` of a plan.
+#[tactic(auto, using(crate::proofs::Produced::next_produced))]
+fn offer(alloc: Global, tx: &mut LaneTx<'_>, plan: &TxPlan, k: u32) -> Result<(), Memory>
+    requires plan { FitsPlan plan.now × (tx.old.lane.plan ≡ Producer plan.now) }
+    requires next { (length tx.old.put ≡ k) × (k < plan.now.packets) }
+    requires room { length tx.old.put < tx.old.lane.room + tx.old.taken }
+    ensures lane { (tx.new.lane ≡ tx.old.lane) × (tx.new.taken ≡ tx.old.taken) }
+    ensures put { OnOk result (length tx.new.put ≡ k + 1) }
+{
+    let packet = plan.packet(alloc, k)?;
+    tx.put(packet);
+    Ok(())
+}
+
+#[test]
+fn a_planned_lane_carries_its_plan(rt: HostRuntime) -> Result<(), Fail> {
+    let alloc = rt.alloc();
+    let plan = TxPlan {
+        packets: 3,
+        spp: 2,
+        item: 4,
+        time: None,
+        dst: Epid(7),
+    };
+    let mut lane = Lane::new(alloc, LanePlan::Producer(plan), 2)?;
+    let (mut tx, mut rx) = lane.split();
+    offer(alloc, &mut tx, &plan, 0)?;
+    offer(alloc, &mut tx, &plan, 1)?;
+    meet(&mut tx, &mut rx);
+    assert!(rt; rx.take() == plan.packet(alloc, 0)?);
+    meet(&mut tx, &mut rx);
+    offer(alloc, &mut tx, &plan, 2)?;
+    assert_eq!(rt; (rx.look_put(), rx.waiting()), (3, 2));
+    assert!(rt; rx.take() == plan.packet(alloc, 1)?);
+    assert_eq!(rt; (tx.look_taken(), tx.room()), (2, 1));
+    assert_eq!(rt; close(tx, rx), LaneEnd { put: 3, got: 2 });
+    Ok(())
+}
+
+/// One packet through a lane that came from elsewhere; a second one stays in it.
+fn used_up(alloc: Global, mut lane: Lane) -> LaneEnd
+    requires { (lane.whole ≡ true) × (lane.lane.plan ≡ Any) × (1 < lane.lane.room) }
+{
+    let (mut tx, mut rx) = lane.split();
+    tx.put(numbered(alloc, 0));
+    tx.put(numbered(alloc, 1));
+    meet(&mut tx, &mut rx);
+    rx.take();
+    close(tx, rx)
+}
+
+#[test]
+fn a_lane_moves_to_another_thread(rt: HostRuntime) -> Result<(), Fail> {
+    let alloc = rt.alloc();
+    let lane = Lane::new(alloc, LanePlan::Any, 2)?;
+    let (end, ()) = join(&rt, move || used_up(alloc, lane), || ());
+    assert_eq!(rt; end, LaneEnd { put: 2, got: 1 });
     Ok(())
 }

@@ -63,7 +63,8 @@ impl LaneTx<'_> {
         ensures lane { self.new.lane ≡ self.old.lane }
         ensures kept { self.new.put ≡ self.old.put }
     {
-        self.taken = self.table.shared.load::<SeeTaken>(&mut self.seat, TAKEN);
-        self.taken
+        let taken = self.table.shared.load::<SeeTaken>(&mut self.seat, TAKEN);
+        self.taken = taken;
+        taken
     }
 }
