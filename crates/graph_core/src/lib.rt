@@ -16,3 +16,6 @@ pub use law::closed_is_unique;
 pub use place::{Edge, PortAt, Prop, PropAt, Rule, Side};
 pub use ports::{port_count, ports_at};
 pub use values::Values;
+
+#[cfg(test)]
+mod tests;
