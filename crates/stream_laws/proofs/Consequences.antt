@@ -1,6 +1,6 @@
 -- The laws of a stream follow from its invariant.
 use Rattle.std.proofs.Common.{◌≡◌, ℕ, zero, suc, ◌+◌, ◌-◌, ◌<◌, ◌≤◌, ◌%◌, ◌^◌, Some, List, [], ◌∷◌, ◌++◌, length, take, drop, slice_get, refl, ap, sym, ◌∙◌, subst, arith, length-drop}
-use Rattle.std.proofs.lemmas.List.{length-take-le}
+use Rattle.std.proofs.lemmas.List.{length-take-le, take-append-drop}
 use mathlib.Core.List.{IsPrefix}
 use Rattle.stream_endpoint.specs.Counts.{less_modulo, spelled, spelled_less}
 use Rattle.stream_laws.specs.Machine.{Cut, Load, State, Terms, opens}
@@ -88,7 +88,9 @@ pub stops_at_loss : {A : Type 0} (terms : Terms) (st : State A) → IsRun terms 
 stops_at_loss terms st run = epoch_stops st.sent st.given st.lost st.cuts (reach st.sent st.given) (holds_run terms st run).epochs
 
 pub taken_of_given : {A : Type 0} (terms : Terms) (st : State A) → IsRun terms st → IsTakenOfGiven terms st
-taken_of_given terms st run = let h = (holds_run terms st run).counted.held_packets in omega arith
+taken_of_given terms st run =
+    let held = (holds_run terms st run).counted.held_packets in
+    (length-take-le st.taken st.given (omega arith), (drop st.taken st.given, take-append-drop st.taken st.given))
 
 pub within_capacity : {A : Type 0} (terms : Terms) (st : State A) → IsRun terms st → IsWithin terms st
 within_capacity terms st run =

@@ -38,7 +38,7 @@ both_true false b e = absurd (cc e)
 is_zero : (n : ℕ) → (n == 0) ≡ true → n ≡ 0
 is_zero n e = grind (arith, nat_tests)
 
-none_means : (p b : ℕ) → ((p == 0) && (b == 0)) ≡ true → (p ≡ 0) × (b ≡ 0)
+pub none_means : (p b : ℕ) → ((p == 0) && (b == 0)) ≡ true → (p ≡ 0) × (b ≡ 0)
 none_means p b e = let both = both_true (p == 0) (b == 0) e in (is_zero p both.0, is_zero b both.1)
 
 -- what is left of a drained stream: nothing is under way but statuses
@@ -121,7 +121,7 @@ heard_stays policy left s None is good none' = okay_stays policy left s s.state 
     missed false b e = refl
 heard_stays policy left s (Some gap) is good none' = absurd (omega arith)
 
-none_left : (p b : ℕ) → p ≡ 0 → b ≡ 0 → ((p == 0) && (b == 0)) ≡ true
+pub none_left : (p b : ℕ) → p ≡ 0 → b ≡ 0 → ((p == 0) && (b == 0)) ≡ true
 none_left p b zp zb = rw (zp, zb) refl
 
 drained_hear : {A : Type 0} (terms : Terms) (st : State A) (s : Told) (rest : List Told) → IsValid terms.flow → Holds terms st → IsDrained st

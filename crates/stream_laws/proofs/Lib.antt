@@ -13,3 +13,5 @@ pub mod Steps
 pub mod Consequences
 pub mod Worked
 pub mod Ending
+pub mod Falling
+pub mod FallingHear

@@ -13,7 +13,7 @@ use Rattle.stream_laws.specs.Machine.{Cut, Told}
 use Rattle.stream_laws.specs.Chains.{good_told, goodness}
 use Rattle.stream_laws.specs.Invariant.{Paid, Unhurt, dues, goods}
 
-goods-append : (ss : List Told) (s : Told) → goods (ss ++ s ∷ []) ≡ goods ss + good_told s
+pub goods-append : (ss : List Told) (s : Told) → goods (ss ++ s ∷ []) ≡ goods ss + good_told s
 goods-append [] s = omega arith
 goods-append (t ∷ ss) s = let rest = goods-append ss s in omega arith
 

@@ -21,10 +21,10 @@ use Rattle.stream_laws.proofs.Numbers.{credited_hear, held_even, rising_hear}
 use Rattle.stream_laws.proofs.StepsBack.{IsHeard, read_back}
 use Rattle.stream_laws.proofs.TalkHear.{Falls, falls_auto, falls_by_gap, falls_by_ping, falls_off, opening_hear, resyncing_hear_bad, resyncing_hear_good, running_hear}
 
-not_none : (p b : ℕ) → ((p == 0) && (b == 0)) ≡ false → p ≡ 0 → b ≡ 0 → ⊥
+pub not_none : (p b : ℕ) → ((p == 0) && (b == 0)) ≡ false → p ≡ 0 → b ≡ 0 → ⊥
 not_none p b e zp zb = let e' : ((0 == 0) && (0 == 0)) ≡ false = rw (zp, zb) at e in cc e'
 
-both_of : (a b : Bool) → (a && not b) ≡ true → (a ≡ true) × (b ≡ false)
+pub both_of : (a b : Bool) → (a && not b) ≡ true → (a ≡ true) × (b ≡ false)
 both_of true true e = absurd (cc e)
 both_of true false e = (refl, refl)
 both_of false b e = absurd (cc e)

@@ -36,9 +36,9 @@ IsEpochwise terms st = EachEpoch
 abbrev pub IsCut : {A : Type 0} → Terms → State A → Type 0
 IsCut terms st = EachEpoch (λ from here. (from.sent ≤ here.sent) × (from.given ≤ here.given)) st.cuts (reach st.sent st.given)
 
--- No more is taken than was given.
+-- What was taken, the first `taken` packets of what was given, is all there.
 abbrev pub IsTakenOfGiven : {A : Type 0} → Terms → State A → Type 0
-IsTakenOfGiven terms st = st.taken ≤ length st.given
+IsTakenOfGiven terms st = (length (take st.taken st.given) ≡ st.taken) × IsPrefix (take st.taken st.given) st.given
 
 -- What was sent and isn't known to be taken is within the capacity.
 pub record IsWithin {A : Type 0} (terms : Terms) (st : State A) : Type 0 where

@@ -6,4 +6,5 @@ pub mod Example
 pub mod Invariant
 pub mod Laws
 pub mod Machine
+pub mod Potential
 pub mod Talk
