@@ -7,7 +7,7 @@ use Rattle.std.proofs.lemmas.List.{drop-drop}
 use Rattle.std.proofs.lemmas.Bool.{cases_lt}
 use Rattle.std.proofs.lemmas.Bool.Decides.{nat_tests}
 use Rattle.chdr_packets.specs.declared.packet.Packet.{Packet}
-use Rattle.chdr_packets.specs.Length.{wire_of, length_of, time_bytes}
+use Rattle.chdr_packets.specs.Length.{wire_of}
 use Rattle.block_library.specs.declared.plan.TxPlan.{TxPlan}
 use Rattle.block_library.specs.Producer.{produced, packet_of, FitsPlan, time_of}
 use Rattle.block_library.specs.Samples.{samples_from, sample}

@@ -5,7 +5,8 @@ use Rattle.std.specs.Int.{bytes_low_first}
 use Rattle.std.specs.List.{flat_map, range_with_len}
 use Rattle.std.proofs.lemmas.List.{length-append}
 use Rattle.chdr_packets.specs.declared.packet.Packet.{Packet}
-use Rattle.chdr_packets.specs.Length.{length_of, time_bytes}
+use Rattle.chdr_packets.specs.Length.{length_of}
+use Rattle.chdr_words.specs.Wire.{time_bytes}
 use Rattle.block_library.specs.declared.plan.TxPlan.{TxPlan}
 use Rattle.block_library.specs.Producer.{packet_of, FitsPlan, time_of}
 use Rattle.block_library.specs.Samples.{samples_from, sample}

@@ -14,3 +14,6 @@ pub use event::{Event, Journal};
 pub use net::Net;
 pub use queue::LINK_ROOM;
 pub use tally::{StreamEnd, Tally};
+
+#[cfg(test)]
+mod tests;
