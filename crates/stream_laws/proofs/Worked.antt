@@ -1,11 +1,12 @@
 -- The worked run is legal and ends drained, from a start at 0 and from one near the end of a spelled packet count.
-use Rattle.std.proofs.Common.{◌-◌, ◌^◌, refl, inl, arith}
+use Rattle.std.proofs.Common.{◌-◌, ◌^◌, refl, inl, inr, arith}
 use Rattle.stream_laws.specs.Example.{IsWorked}
 
 pub from_zero : IsWorked 0
 from_zero = record {
+  valid = omega arith;
   legal = (
-    (refl, (omega arith, (omega arith, (omega arith, (omega arith, tt))))),
+    (refl, (omega arith, (omega arith, (omega arith, (omega arith, (omega arith, (omega arith, tt))))))),
     (
       tt,
       (
@@ -23,36 +24,90 @@ from_zero = record {
                   (
                     (refl, (refl, (omega arith, omega arith))),
                     (
-                      refl,
+                      (refl, (refl, (omega arith, omega arith))),
                       (
-                        (refl, refl),
+                        refl,
                         (
                           (refl, refl),
                           (
-                            (omega arith, omega arith),
+                            (refl, refl),
                             (
-                              refl,
+                              (refl, refl),
                               (
-                                refl,
+                                (omega arith, omega arith),
                                 (
-                                  (refl, inl refl),
+                                  refl,
                                   (
                                     refl,
                                     (
-                                      refl,
+                                      (refl, inl refl),
                                       (
                                         refl,
                                         (
-                                          (refl, (refl, (omega arith, omega arith))),
+                                          (refl, inr (record { none_forward = refl; none_back = refl; none_due = refl; all_taken = refl })),
                                           (
-                                            (refl, refl),
+                                            refl,
                                             (
-                                              (omega arith, omega arith),
+                                              refl,
                                               (
                                                 refl,
                                                 (
-                                                  refl,
-                                                  tt,
+                                                  (refl, inr (record { none_forward = refl; none_back = refl; none_due = refl; all_taken = refl })),
+                                                  (
+                                                    refl,
+                                                    (
+                                                      refl,
+                                                      (
+                                                        refl,
+                                                        (
+                                                          (refl, (refl, (omega arith, omega arith))),
+                                                          (
+                                                            (refl, (refl, (omega arith, omega arith))),
+                                                            (
+                                                              refl,
+                                                              (
+                                                                (refl, refl),
+                                                                (
+                                                                  (omega arith, omega arith),
+                                                                  (
+                                                                    refl,
+                                                                    (
+                                                                      refl,
+                                                                      (
+                                                                        record { running = refl; quiet = record { none_forward = refl; none_back = refl; none_due = refl; all_taken = refl }; not_covered = refl; stuck = refl },
+                                                                        (
+                                                                          (refl, λ e. absurd (cc e)),
+                                                                          (
+                                                                            refl,
+                                                                            (
+                                                                              refl,
+                                                                              (
+                                                                                (refl, inl refl),
+                                                                                (
+                                                                                  refl,
+                                                                                  (
+                                                                                    refl,
+                                                                                    (
+                                                                                      refl,
+                                                                                      tt,
+                                                                                    ),
+                                                                                  ),
+                                                                                ),
+                                                                              ),
+                                                                            ),
+                                                                          ),
+                                                                        ),
+                                                                      ),
+                                                                    ),
+                                                                  ),
+                                                                ),
+                                                              ),
+                                                            ),
+                                                          ),
+                                                        ),
+                                                      ),
+                                                    ),
+                                                  ),
                                                 ),
                                               ),
                                             ),
@@ -81,13 +136,15 @@ from_zero = record {
   given = refl;
   lost = refl;
   cuts = refl;
+  losses = refl;
   drained = record { closed = refl; none_ready = refl; running = refl; covered = refl; all_taken = refl };
 }
 
 pub near_the_end : IsWorked (2 ^ 40 - 2)
 near_the_end = record {
+  valid = omega arith;
   legal = (
-    (refl, (omega arith, (omega arith, (omega arith, (omega arith, tt))))),
+    (refl, (omega arith, (omega arith, (omega arith, (omega arith, (omega arith, (omega arith, tt))))))),
     (
       tt,
       (
@@ -105,36 +162,90 @@ near_the_end = record {
                   (
                     (refl, (refl, (omega arith, omega arith))),
                     (
-                      refl,
+                      (refl, (refl, (omega arith, omega arith))),
                       (
-                        (refl, refl),
+                        refl,
                         (
                           (refl, refl),
                           (
-                            (omega arith, omega arith),
+                            (refl, refl),
                             (
-                              refl,
+                              (refl, refl),
                               (
-                                refl,
+                                (omega arith, omega arith),
                                 (
-                                  (refl, inl refl),
+                                  refl,
                                   (
                                     refl,
                                     (
-                                      refl,
+                                      (refl, inl refl),
                                       (
                                         refl,
                                         (
-                                          (refl, (refl, (omega arith, omega arith))),
+                                          (refl, inr (record { none_forward = refl; none_back = refl; none_due = refl; all_taken = refl })),
                                           (
-                                            (refl, refl),
+                                            refl,
                                             (
-                                              (omega arith, omega arith),
+                                              refl,
                                               (
                                                 refl,
                                                 (
-                                                  refl,
-                                                  tt,
+                                                  (refl, inr (record { none_forward = refl; none_back = refl; none_due = refl; all_taken = refl })),
+                                                  (
+                                                    refl,
+                                                    (
+                                                      refl,
+                                                      (
+                                                        refl,
+                                                        (
+                                                          (refl, (refl, (omega arith, omega arith))),
+                                                          (
+                                                            (refl, (refl, (omega arith, omega arith))),
+                                                            (
+                                                              refl,
+                                                              (
+                                                                (refl, refl),
+                                                                (
+                                                                  (omega arith, omega arith),
+                                                                  (
+                                                                    refl,
+                                                                    (
+                                                                      refl,
+                                                                      (
+                                                                        record { running = refl; quiet = record { none_forward = refl; none_back = refl; none_due = refl; all_taken = refl }; not_covered = refl; stuck = refl },
+                                                                        (
+                                                                          (refl, λ e. absurd (cc e)),
+                                                                          (
+                                                                            refl,
+                                                                            (
+                                                                              refl,
+                                                                              (
+                                                                                (refl, inl refl),
+                                                                                (
+                                                                                  refl,
+                                                                                  (
+                                                                                    refl,
+                                                                                    (
+                                                                                      refl,
+                                                                                      tt,
+                                                                                    ),
+                                                                                  ),
+                                                                                ),
+                                                                              ),
+                                                                            ),
+                                                                          ),
+                                                                        ),
+                                                                      ),
+                                                                    ),
+                                                                  ),
+                                                                ),
+                                                              ),
+                                                            ),
+                                                          ),
+                                                        ),
+                                                      ),
+                                                    ),
+                                                  ),
                                                 ),
                                               ),
                                             ),
@@ -163,5 +274,6 @@ near_the_end = record {
   given = refl;
   lost = refl;
   cuts = refl;
+  losses = refl;
   drained = record { closed = refl; none_ready = refl; running = refl; covered = refl; all_taken = refl };
 }

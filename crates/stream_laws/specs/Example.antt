@@ -1,13 +1,14 @@
--- A worked run: of three packets the second is lost, so the third breaks the receiver;
--- the stream resynchronises, a fourth packet makes a second epoch, and the stream drains.
-use Rattle.std.specs.Prelude.{◌≡◌, ℕ, ◌+◌, ◌%◌, ◌^◌, Option, Some, None, List, [], ◌∷◌}
-use Rattle.chdr_words.specs.declared.command.CmdOp.TheVariants.{Init, Resync}
+-- A worked run of six packets with five losses: one packet in the middle and the last one, a RESYNC, an answer,
+-- and a status. The receiver breaks once, a PING finds the second gap, and the stream drains in its fourth epoch.
+use Rattle.std.specs.Prelude.{◌≡◌, ℕ, ◌+◌, ◌*◌, ◌%◌, ◌^◌, Some, None, List, [], ◌∷◌}
+use Rattle.chdr_words.specs.declared.command.CmdOp.TheVariants.{Init, Ping, Resync}
+use Rattle.stream_endpoint.specs.declared.count.Count.{Count}
 use Rattle.stream_endpoint.specs.declared.flow.Flow.{Flow}
 use Rattle.stream_endpoint.specs.declared.flow.Policy.TheVariants.{Auto}
-use Rattle.stream_endpoint.specs.declared.state.Gap.{Gap}
-use Rattle.stream_endpoint.specs.Flow.{frequency}
+use Rattle.stream_endpoint.specs.Counts.{none}
+use Rattle.stream_endpoint.specs.Flow.{IsValid, frequency}
 use Rattle.stream_laws.specs.Machine.{Data, Load, State, Terms, Told, opens}
-use Rattle.stream_laws.specs.Acts.{Act, IsLegal, after_all, Fill, Close, Enter, Order, Keep, Break, Obey, Renew, Take, Report, Hear, LosePacket}
+use Rattle.stream_laws.specs.Acts.{Act, IsLegal, after_all, Fill, Close, Enter, Order, Keep, Break, Discard, Obey, Renew, Take, Report, Hear, LosePacket, LoseCommand, LoseStatus}
 use Rattle.stream_laws.specs.Ends.{IsDrained}
 
 abbrev pub small : Flow
@@ -21,38 +22,64 @@ from start = record { flow = small; policy = Auto; start = record { packets = st
 abbrev pub load : ℕ → Load ℕ
 load place = record { wire = 24; item = place }
 
-abbrev pub told : Option Gap → ℕ → ℕ → Told
-told gap packets bytes = record { gap = gap; told = record { packets = packets; bytes = bytes } }
+-- so many packets, counted from the start
+abbrev pub total : ℕ → ℕ → Count
+total start n = record { packets = start + n; bytes = n * 24 }
 
--- the number of the second packet was expected, and that of the third came
-abbrev pub gap : ℕ → Gap
-gap start = record { expected = (start + 1) % 2 ^ 16; got = (start + 2) % 2 ^ 16 }
+-- an OKAY for so many packets
+abbrev pub okay : ℕ → ℕ → Told
+okay start n = record { gap = None; told = total start n }
+
+-- the number of the second packet was expected, and that of the third came; the first one was taken
+abbrev pub broken : ℕ → Told
+broken start = record {
+  gap = Some (record { expected = (start + 1) % 2 ^ 16; got = (start + 2) % 2 ^ 16 });
+  told = total start 1;
+}
 
 abbrev pub acts : ℕ → List (Act ℕ)
-acts start = Fill (load 0 ∷ load 1 ∷ load 2 ∷ load 3 ∷ [])
+acts start = Fill (load 0 ∷ load 1 ∷ load 2 ∷ load 3 ∷ load 4 ∷ load 5 ∷ [])
     ∷ Close
     ∷ Order Init
     ∷ Obey Init (frequency small) []
     ∷ Report
-    ∷ Hear (told None start 0) []
-    ∷ Enter (load 0) (load 1 ∷ load 2 ∷ load 3 ∷ [])
-    ∷ Enter (load 1) (load 2 ∷ load 3 ∷ [])
-    ∷ Enter (load 2) (load 3 ∷ [])
-    ∷ LosePacket (Data 0 (load 0) ∷ []) 1 (load 1) (Data 2 (load 2) ∷ [])
-    ∷ Keep 0 (load 0) (Data 2 (load 2) ∷ [])
-    ∷ Break 2 (load 2) []
+    ∷ Hear (okay start 0) []
+    ∷ Enter (load 0) (load 1 ∷ load 2 ∷ load 3 ∷ load 4 ∷ load 5 ∷ [])
+    ∷ Enter (load 1) (load 2 ∷ load 3 ∷ load 4 ∷ load 5 ∷ [])
+    ∷ Enter (load 2) (load 3 ∷ load 4 ∷ load 5 ∷ [])
+    ∷ Enter (load 3) (load 4 ∷ load 5 ∷ [])
+    ∷ LosePacket (Data 0 (load 0) ∷ []) 1 (load 1) (Data 2 (load 2) ∷ Data 3 (load 3) ∷ [])
+    ∷ Keep 0 (load 0) (Data 2 (load 2) ∷ Data 3 (load 3) ∷ [])
+    ∷ Break 2 (load 2) (Data 3 (load 3) ∷ [])
+    ∷ Discard 3 (load 3) []
     ∷ Take 1
     ∷ Report
-    ∷ Hear (told (Some (gap start)) (start + 1) 24) []
+    ∷ Hear (broken start) []
     ∷ Order Resync
-    ∷ Renew (record { packets = start + 3; bytes = 72 }) []
+    ∷ LoseCommand [] Resync (total start 4) []
+    ∷ Order Resync
+    ∷ Renew (total start 4) []
     ∷ Report
-    ∷ Hear (told None (start + 3) 72) []
-    ∷ Enter (load 3) []
-    ∷ Keep 3 (load 3) []
+    ∷ LoseStatus [] (okay start 4) []
+    ∷ Order Resync
+    ∷ Renew (total start 4) []
+    ∷ Report
+    ∷ Hear (okay start 4) []
+    ∷ Enter (load 4) (load 5 ∷ [])
+    ∷ Enter (load 5) []
+    ∷ LosePacket (Data 4 (load 4) ∷ []) 5 (load 5) []
+    ∷ Keep 4 (load 4) []
     ∷ Take 1
     ∷ Report
-    ∷ Hear (told None (start + 4) 96) []
+    ∷ LoseStatus [] (okay start 5) []
+    ∷ Order Ping
+    ∷ Obey Ping none []
+    ∷ Report
+    ∷ Hear (okay start 5) []
+    ∷ Order Resync
+    ∷ Renew (total start 6) []
+    ∷ Report
+    ∷ Hear (okay start 6) []
     ∷ []
 
 abbrev pub left : ℕ → State ℕ
@@ -60,9 +87,11 @@ left start = after_all (from start) (opens (from start)) (acts start)
 
 -- the worked run is legal, and this is what it leaves
 pub record IsWorked (start : ℕ) : Type 0 where
+  pub valid : IsValid small
   pub legal : IsLegal (from start) (opens (from start)) (acts start)
-  pub sent : (left start).sent ≡ load 0 ∷ load 1 ∷ load 2 ∷ load 3 ∷ []
-  pub given : (left start).given ≡ load 0 ∷ load 3 ∷ []
-  pub lost : (left start).lost ≡ 1 ∷ []
-  pub cuts : (left start).cuts ≡ record { sent = 3; given = 1 } ∷ []
+  pub sent : (left start).sent ≡ load 0 ∷ load 1 ∷ load 2 ∷ load 3 ∷ load 4 ∷ load 5 ∷ []
+  pub given : (left start).given ≡ load 0 ∷ load 4 ∷ []
+  pub lost : (left start).lost ≡ 5 ∷ 1 ∷ []
+  pub cuts : (left start).cuts ≡ record { sent = 6; given = 2 } ∷ record { sent = 4; given = 1 } ∷ record { sent = 4; given = 1 } ∷ []
+  pub losses : (left start).losses ≡ 5
   pub drained : IsDrained (left start)

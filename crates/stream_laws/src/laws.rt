@@ -58,8 +58,9 @@ pub fn runs_join<P>()
     ensures run { Joins P }
 {}
 
-/// A worked run: a loss breaks the receiver, the stream resynchronises and drains. It begins once at
-/// packet 0 and once near 2^40, where a spelled packet count wraps in it.
+/// A worked run of six packets: a loss in the middle breaks the receiver, the first RESYNC and the
+/// answer of the second are lost, a PING finds that the last packet was lost too, and the stream
+/// drains. It begins once at packet 0 and once near 2^40, where a spelled packet count wraps in it.
 pub fn a_loss_is_mended()
     ensures first { IsWorked 0 }
     ensures wraps { IsWorked (2 ^ 40 - 2) }
