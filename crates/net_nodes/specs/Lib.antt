@@ -1,0 +1,4 @@
+pub mod Operations
+pub mod Perform
+pub mod Switch
+pub mod Table

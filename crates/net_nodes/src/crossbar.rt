@@ -1,0 +1,113 @@
+ghost use Rattle.std.specs.Prelude.{◌≡◌, ◌+◌, ◌≤◌, ◌<◌, ◌^◌, map, length, IfOk};
+ghost use Rattle.chdr_words.specs.NodeInfo.{FitsInfo};
+ghost use Rattle.net_nodes.specs.Operations.{asked_in};
+ghost use Rattle.net_nodes.specs.Perform.{first_hop, last_hop, performed, without_first, work_of};
+ghost use Rattle.net_nodes.specs.Switch.{crossbar_site};
+ghost use Rattle.net_nodes.specs.Table.{no_exit, exit_of, with_exit};
+
+use crate::hop::perform_hop;
+use crate::{Done, Room, Site, Switch, Table};
+use chdr_words::{Epid, EpidList, Management, NodeInfo};
+use rf_base::Memory;
+use std::alloc::Global;
+use std::marker::Model;
+
+/// A node of 1 to 32 ports that passes packets on by its table; contracts see its parts.
+#[derive(Debug, Drop)]
+pub struct Crossbar {
+    switch: Switch,
+}
+
+impl Model for Crossbar {
+    ghost use Rattle.net_nodes.specs.declared.switch.Switch.{Switch};
+    ghost use Rattle.net_nodes.specs.Switch.{FitsSwitch};
+
+    ghost Value = { Switch };
+
+    ghost view = { λ node. node.switch };
+
+    ghost invariant = { λ node. FitsSwitch node.switch };
+}
+
+impl Crossbar {
+    /// The node with a place for each EPID and no entries; bit p of `linked` says that port p has
+    /// a link.
+    pub fn new(
+        alloc: Global,
+        instance: u16,
+        ports: u8,
+        linked: u32,
+        epids: &EpidList,
+    ) -> Result<Crossbar, Memory>
+        requires instance { instance < 1024 }
+        requires some { 1 ≤ ports }
+        requires many { ports ≤ 32 }
+        requires linked { linked < 2 ^ ports }
+        ensures { IfOk result (λ node. node ≡ record {
+          instance = instance;
+          ports = ports;
+          linked = linked;
+          table = map no_exit epids.now;
+        }) }
+    {
+        let table = Table::new(alloc, epids)?;
+        Ok(Crossbar {
+            switch: Switch {
+                instance,
+                ports,
+                linked,
+                table,
+            },
+        })
+    }
+
+    /// The port by which packets to an EPID leave.
+    pub fn route(&self, dst: Epid) -> Option<u8>
+        ensures { result ≡ exit_of self.now.table dst }
+    {
+        self.switch.table.exit(dst)
+    }
+
+    /// Makes the port the entry of an EPID that has a place; another EPID changes nothing.
+    pub fn set(&mut self, dst: Epid, port: u8)
+        requires { port < self.old.ports }
+        ensures { self.new ≡ record self.old { table = with_exit self.old.table dst port } }
+    {
+        self.switch.table.set(dst, port);
+    }
+
+    /// Performs the first hop of a packet that came by a port, and takes it off.
+    ///
+    /// `room` is from `reserve_answers`. Rule: docs/control-and-discovery.md, "Hops".
+    pub fn perform(&mut self, m: &mut Management, port_in: u8, room: Room) -> Done
+        requires port { port_in < self.old.ports }
+        requires hops { 2 ≤ length m.old.hops }
+        requires room { length (last_hop m.old) + asked_in (first_hop m.old) ≤ room }
+        ensures work { work_of self.new.table result (last_hop m.new)
+            ≡ performed (crossbar_site self.old port_in) self.old.table m.old }
+        ensures kept { self.new ≡ record self.old { table = self.new.table } }
+        ensures packet { m.new ≡ without_first m.old (last_hop m.new) }
+    {
+        let site = self.site(port_in);
+        perform_hop(&site, &mut self.switch.table, m, room)
+    }
+
+    fn site(&self, port_in: u8) -> Site
+        requires { port_in < self.now.ports }
+        ensures value { result ≡ crossbar_site self.now port_in }
+        ensures fits { FitsInfo result.info }
+    {
+        let ports = self.switch.ports;
+        Site {
+            info: NodeInfo {
+                device: 1,
+                kind: 1,
+                instance: self.switch.instance,
+                extended: ports as u32 + 256 * port_in as u32,
+            },
+            ports,
+            linked: self.switch.linked,
+            arrival: port_in,
+        }
+    }
+}

@@ -1,0 +1,24 @@
+//! What each node of a network does: it routes packets by its table, and performs management hops.
+#![tactic(auto)]
+
+mod adapter;
+mod crossbar;
+mod end_node;
+mod hop;
+mod operation;
+mod room;
+mod site;
+mod switch;
+mod table;
+
+pub use adapter::Adapter;
+pub use crossbar::Crossbar;
+pub use end_node::EndNode;
+pub use operation::Operation;
+pub use room::{Room, asked_answers, reserve_answers};
+pub use site::{Done, Site};
+pub use switch::Switch;
+pub use table::{Place, Table, tables_are_maps};
+
+#[cfg(test)]
+mod tests;
