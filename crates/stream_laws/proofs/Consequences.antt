@@ -8,7 +8,7 @@ use Rattle.stream_laws.specs.Acts.{Act, IsLegal, after, after_all}
 use Rattle.stream_laws.specs.Chains.{IsLost, flying, packets_told, bytes_told}
 use Rattle.stream_laws.specs.Epochs.{EachEpoch, IsEpoch, begun, origin, reach}
 use Rattle.stream_laws.specs.Invariant.{Received}
-use Rattle.stream_laws.specs.Laws.{HasFewEpochs, HasRoomAhead, IsBrokenByLoss, IsCut, IsEpochwise, IsRun, IsTakenOfGiven, IsWithin, GoesOn, Joins, NumbersTell, ReadsBack, StopsAtLoss, TellsTotals, piece}
+use Rattle.stream_laws.specs.Laws.{HasFewEpochs, HasRoomAhead, IsBrokenByLoss, IsCut, IsEpochwise, IsRun, IsTakenOfGiven, IsWithin, GoesOn, Joins, NumbersGoOn, NumbersTell, ReadsBack, StopsAtLoss, TellsTotals, piece}
 use Rattle.stream_laws.specs.Talk.{Holds}
 use Rattle.stream_laws.proofs.Chains.{rises_le, stand_count}
 use Rattle.stream_laws.proofs.Places.{epochs_last, near}
@@ -166,6 +166,9 @@ tells_totals terms st run told rest e = (renew_talk terms st told rest st.sender
 pub numbers_tell : {A : Type 0} (terms : Terms) (st : State A) → IsRun terms st → NumbersTell terms st
 numbers_tell terms st run place load rest e number =
     let a = arriving terms st place load rest run.valid (holds_run terms st run) e in near _ _ a.at a.few number
+
+pub numbers_go_on : {A : Type 0} (terms : Terms) (st : State A) → IsRun terms st → NumbersGoOn terms st
+numbers_go_on terms st run = ap (λ n. n % 2 ^ 16) (holds_run terms st run).counted.sent_packets
 
 legal_join : {A : Type 0} (terms : Terms) (st : State A) (acts more : List (Act A)) → IsLegal terms st acts → IsLegal terms (after_all terms st acts) more
     → IsLegal terms st (acts ++ more)

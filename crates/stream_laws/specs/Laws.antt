@@ -7,7 +7,7 @@ use Rattle.stream_endpoint.specs.declared.state.Gap.{Gap}
 use Rattle.stream_endpoint.specs.Counts.{less, spelled, spelled_less}
 use Rattle.stream_endpoint.specs.Flow.{IsValid}
 use Rattle.stream_endpoint.specs.Receiver.{FindsRoom, expected}
-use Rattle.stream_endpoint.specs.Sender.{known}
+use Rattle.stream_endpoint.specs.Sender.{known, next_number}
 use Rattle.stream_laws.specs.Machine.{Entry, Data, Command, Load, State, Terms, Told, count_of, number_at, opens}
 use Rattle.stream_laws.specs.Acts.{Act, Allowed, Leads, after}
 use Rattle.stream_laws.specs.Chains.{IsLost}
@@ -102,6 +102,10 @@ TellsTotals {A} terms st = (told : Count) (rest : List (Entry A)) → st.forward
 abbrev pub NumbersTell : {A : Type 0} → Terms → State A → Type 0
 NumbersTell {A} terms st = (place : ℕ) (load : Load A) (rest : List (Entry A)) → st.forward ≡ Data place load ∷ rest
     → number_at terms place ≡ expected st.receiver → terms.start.packets + place ≡ st.receiver.reached.packets
+
+-- The next packet's number is that of its place.
+abbrev pub NumbersGoOn : {A : Type 0} → Terms → State A → Type 0
+NumbersGoOn terms st = next_number st.sender ≡ number_at terms (length st.sent)
 
 -- runs go on by an act, and one after another
 abbrev pub GoesOn : Type 0 → Type 0

@@ -1,5 +1,5 @@
 ghost use Rattle.std.specs.Prelude.{◌-◌, ◌^◌};
-ghost use Rattle.stream_laws.specs.Laws.{Always, GoesOn, HasFewEpochs, HasRoomAhead, IsBrokenByLoss, IsCut, IsEpochwise, IsTakenOfGiven, IsWithin, Joins, NumbersTell, ReadsBack, StopsAtLoss, TellsTotals};
+ghost use Rattle.stream_laws.specs.Laws.{Always, GoesOn, HasFewEpochs, HasRoomAhead, IsBrokenByLoss, IsCut, IsEpochwise, IsTakenOfGiven, IsWithin, Joins, NumbersGoOn, NumbersTell, ReadsBack, StopsAtLoss, TellsTotals};
 ghost use Rattle.stream_laws.specs.Example.{IsWorked};
 ghost use Rattle.stream_laws.specs.Talk.{Holds};
 
@@ -50,6 +50,7 @@ pub fn spellings_tell<P>()
     ensures counts { Always {A = P} ReadsBack }
     ensures totals { Always {A = P} TellsTotals }
     ensures numbers { Always {A = P} NumbersTell }
+    ensures next { Always {A = P} NumbersGoOn }
 {}
 
 /// Legal runs go on by allowed acts, and one after another.
