@@ -11,8 +11,8 @@ const fn op(code: u8, payload: u64) -> MgmtOp {
 }
 
 /// CFG_WR_REQ that makes a port the entry of an EPID.
-const fn write(epid: u64, port: u64) -> MgmtOp {
-    op(6, port * 65536 + epid)
+const fn write(epid: u16, port: u32) -> MgmtOp {
+    op(6, port as u64 * 65536 + epid as u64)
 }
 
 /// A packet whose first hop has these operations, and whose last hop is one NOP.
@@ -190,7 +190,7 @@ fn the_information_of_a_crossbar_of_two_ports(rt: HostRuntime) -> Result<(), Fai
     let alloc = rt.alloc();
     let mut node = Crossbar::new(alloc, 1, 2, 0b11, &epids(alloc)?)?;
     let mut m = packet(alloc, 9, &[op(4, 0)])?;
-    let room = reserve_answers(alloc, &m, 1)?;
+    let room = reserve_answers(alloc, &m, asked_answers(&m))?;
     let _ = node.perform(&mut m, 0, room);
     assert_eq!(rt; answer(&m), Some(op(5, 0x8011_0001)));
     Ok(())

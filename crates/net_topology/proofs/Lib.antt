@@ -9,3 +9,4 @@ pub mod CheckLemmas
 pub mod LinkLemmas
 pub mod LawLemmas
 pub mod PortLemmas
+pub mod FaultLemmas

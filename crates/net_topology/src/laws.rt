@@ -3,7 +3,8 @@ ghost use Rattle.std.specs.Prelude.{◌≡◌, ◌≢◌, ◌*◌, ◌<◌, ℕ,
 ghost use Rattle.net_topology.specs.Links.{back_of, start_of, end_of, start_port, end_port, IsWay, NeverTurns, link_at};
 ghost use Rattle.net_topology.specs.Parts.{way_of};
 ghost use Rattle.net_topology.specs.Ranks.{rank_of, MayFollow};
-ghost use Rattle.net_topology.specs.Tree.{IsTree};
+ghost use Rattle.net_topology.specs.Tree.{IsTree, IsFault};
+ghost use Rattle.net_topology.specs.declared.check.PlanFault.{PlanFault};
 
 use crate::Plan;
 
@@ -59,6 +60,17 @@ pub fn ports_name_links(plan: &Plan)
     ensures onward { (d e port : ℕ) → port ≢ end_port plan.now.links d
         → link_at plan.now.links (end_of plan.now.links d) port ≡ Some e
         → MayFollow plan.now.links d e }
+{
+    let _ = plan;
+}
+
+/// A plan has at most one refusal besides want of memory, and a tree has none. So a check that
+/// answers either is exact.
+pub fn refusals_exclude_each_other(plan: &Plan)
+    ensures tree { (fault : PlanFault) → IsTree plan.now → IsFault plan.now fault
+        → fault ≡ PlanFault.Memory }
+    ensures one { (f g : PlanFault) → f ≢ PlanFault.Memory → g ≢ PlanFault.Memory
+        → IsFault plan.now f → IsFault plan.now g → f ≡ g }
 {
     let _ = plan;
 }
