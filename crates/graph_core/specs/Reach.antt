@@ -1,5 +1,5 @@
 -- Marks at blocks, by which the search for a cycle goes.
-use Rattle.std.specs.Prelude.{◌≡◌, ℕ, Bool, true, false, List, Contains, slice_index_or, sum_by}
+use Rattle.std.specs.Prelude.{◌≡◌, ℕ, ◌<◌, Bool, true, false, List, Contains, slice_index_or, sum_by}
 use Rattle.graph_core.specs.declared.place.Edge.{Edge}
 use Rattle.graph_core.specs.Edges.{Reaches}
 
@@ -19,6 +19,14 @@ unmarked marks = sum_by missing marks
 -- edges lead from the block `first` to each marked block
 abbrev pub MarksReached : List Edge → ℕ → List Bool → Type 0
 MarksReached edges first marks = (block : ℕ) → Marked marks block → Reaches edges first block
+
+-- what edges lead to from a block that the old marks knew of, the new ones know of
+abbrev pub KeepsReached : List Edge → List Bool → List Bool → Type 0
+KeepsReached edges old new = (first : ℕ) → MarksReached edges first old → MarksReached edges first new
+
+-- both ends of the edge are at blocks below the number
+abbrev pub HasEndsBelow : ℕ → Edge → Type 0
+HasEndsBelow count edge = (edge.from.block < count) × (edge.to.block < count)
 
 -- each edge from a marked block leads to a marked block
 abbrev pub MarksClosed : List Edge → List Bool → Type 0

@@ -5,15 +5,33 @@ use Rattle.block_library.specs.declared.kind.BlockKind.{BlockKind}
 use Rattle.graph_core.specs.declared.place.PropAt.{PropAt}
 use Rattle.graph_core.specs.declared.place.Edge.{Edge}
 use Rattle.graph_core.specs.Derivation.{Diagram, Settles}
-use Rattle.graph_core.specs.Edges.{IsAcyclic, IsJoined, port_number}
+use Rattle.graph_core.specs.Edges.{IsAcyclic, IsBadPort, IsJoined, port_number}
+use Rattle.graph_core.specs.Refusals.{IsRefusedTaken, IsRefusedCycle}
+use Rattle.graph_core.specs.declared.place.PortAt.{PortAt}
 use Rattle.graph_core.specs.Pairs.{Pair, IsPut}
-use Rattle.graph_core.specs.Ports.{FitsKind, IsProperty}
+use Rattle.graph_core.specs.Ports.{FitsKind, IsProperty, ports_at}
 
 -- a graph: what its rules speak of, the values of the last commit, and whether it is committed
 pub record State : Type 0 where
   pub diagram : Diagram
   pub committed : List Pair
   pub is_committed : Bool
+
+-- `from` is no output of the graph, or `to` no input
+abbrev pub HasBadPort : State → PortAt → PortAt → Type 0
+HasBadPort state from to = IsBadPort state.diagram.kinds from to
+
+-- both are ports, and one of them has an edge
+abbrev pub HasTakenPort : State → PortAt → PortAt → Type 0
+HasTakenPort state from to = IsRefusedTaken state.diagram.kinds state.diagram.edges from to
+
+-- both are ports without an edge, and the edge would close a cycle
+abbrev pub HasCycle : State → PortAt → PortAt → Type 0
+HasCycle state from to = IsRefusedCycle state.diagram.kinds state.diagram.edges from to
+
+-- the block has no such port
+abbrev pub HasNoPort : State → PropAt → Type 0
+HasNoPort state at = ports_at state.diagram.kinds at.block at.side ≤ at.port
 
 -- the graph of these parts
 abbrev pub state : List BlockKind → List Edge → List Pair → List Pair → Bool → State

@@ -1,10 +1,9 @@
-ghost use Rattle.std.specs.Prelude.{◌≡◌, ℕ, ◌<◌, ◌≤◌, ◌↔◌, [], true, false, Err, IsTrue, IfOk, OnOk, OnErr, IfSome, IfNone, Contains, length};
+ghost use Rattle.std.specs.Prelude.{◌≡◌, ◌<◌, ◌↔◌, [], true, false, Err, IsTrue, IfOk, OnOk, OnErr, IfSome, IfNone, Contains, length};
 ghost use Rattle.graph_core.specs.Derivation.{Settles};
-ghost use Rattle.graph_core.specs.Edges.{IsBadPort};
 ghost use Rattle.graph_core.specs.Pairs.{Lacks};
-ghost use Rattle.graph_core.specs.Refusals.{IsRefusedTaken, IsRefusedCycle};
-ghost use Rattle.graph_core.specs.Ports.{FitsKind, ports_at};
-ghost use Rattle.graph_core.specs.State.{IsGraph, IsSet, state, with_kind, with_edge, with_values};
+ghost use Rattle.graph_core.specs.Ports.{FitsKind};
+ghost use Rattle.graph_core.specs.State.{HasBadPort, HasCycle, HasNoPort, HasTakenPort, IsGraph, IsSet};
+ghost use Rattle.graph_core.specs.State.{state, with_edge, with_kind, with_values};
 
 use crate::connect::refusal;
 use crate::{ConnectFault, Edge, PortAt, PropAt, SetFault, Side, Values, ports_at};
@@ -73,9 +72,9 @@ impl Graph {
 
     /// Adds an edge from an output to an input and gives its number. The graph is uncommitted then.
     pub fn connect(&mut self, from: PortAt, to: PortAt) -> Result<u16, ConnectFault>
-        ensures bad { (result ≡ Err ConnectFault.BadPort) ↔ IsBadPort self.old.diagram.kinds from to }
-        ensures taken { (result ≡ Err ConnectFault.PortTaken) ↔ IsRefusedTaken self.old.diagram.kinds self.old.diagram.edges from to }
-        ensures cycle { (result ≡ Err ConnectFault.Cycle) ↔ IsRefusedCycle self.old.diagram.kinds self.old.diagram.edges from to }
+        ensures bad { (result ≡ Err ConnectFault.BadPort) ↔ HasBadPort self.old from to }
+        ensures taken { (result ≡ Err ConnectFault.PortTaken) ↔ HasTakenPort self.old from to }
+        ensures cycle { (result ≡ Err ConnectFault.Cycle) ↔ HasCycle self.old from to }
         ensures number { IfOk result (λ number. number ≡ length self.old.diagram.edges) }
         ensures ok { OnOk result (self.new ≡ with_edge self.old (record { from = from; to = to })) }
         ensures err { OnErr result (self.new ≡ self.old) }
@@ -89,9 +88,11 @@ impl Graph {
         Ok(number)
     }
 
-    /// Sets the user's value of a property, in place of an earlier one. The graph is uncommitted then.
+    /// Sets the user's value of a property, in place of an earlier one.
+    ///
+    /// The graph is uncommitted then.
     pub fn set(&mut self, at: PropAt, value: u64) -> Result<(), SetFault>
-        ensures absent { (result ≡ Err SetFault.NoProperty) ↔ (ports_at self.old.diagram.kinds at.block at.side ≤ at.port) }
+        ensures absent { (result ≡ Err SetFault.NoProperty) ↔ HasNoPort self.old at }
         ensures ok { OnOk result (IsSet self.old self.new at value) }
         ensures err { OnErr result (self.new ≡ self.old) }
     {

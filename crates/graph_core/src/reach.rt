@@ -1,6 +1,6 @@
 ghost use Rattle.std.specs.Prelude.{◌≡◌, ℕ, ◌<◌, ◌↔◌, true, false, IsTrue, All, length};
 ghost use Rattle.graph_core.specs.Edges.{Reaches, IsTaken};
-ghost use Rattle.graph_core.specs.Reach.{Marked, MarksReached, MarksClosed, unmarked};
+ghost use Rattle.graph_core.specs.Reach.{HasEndsBelow, KeepsReached, Marked, MarksClosed, unmarked};
 
 use crate::{Edge, PortAt};
 
@@ -18,9 +18,9 @@ pub(crate) fn is_taken(edges: &[Edge], from: PortAt, to: PortAt) -> bool
 
 /// Marks the far block of each edge from a marked block, and tells whether there was a new one.
 fn sweep(edges: &[Edge], marks: &mut [bool]) -> bool
-    requires ends { All (λ e. (e.from.block < length marks.old) × (e.to.block < length marks.old)) edges.now }
+    requires ends { All (HasEndsBelow (length marks.old)) edges.now }
     ensures kept { (b : ℕ) → Marked marks.old b → Marked marks.new b }
-    ensures sound { (b : ℕ) → MarksReached edges.now b marks.old → MarksReached edges.now b marks.new }
+    ensures sound { KeepsReached edges.now marks.old marks.new }
     ensures still { result ≡ false → MarksClosed edges.now marks.new }
     ensures moved { result ≡ true → unmarked marks.new < unmarked marks.old }
 {
@@ -36,7 +36,7 @@ fn sweep(edges: &[Edge], marks: &mut [bool]) -> bool
 
 /// Whether the block `last` is `first`, or edges lead to it from there.
 pub(crate) fn reaches(edges: &[Edge], first: u16, last: u16) -> bool
-    requires ends { All (λ e. (e.from.block < 32) × (e.to.block < 32)) edges.now }
+    requires ends { All (HasEndsBelow 32) edges.now }
     requires first { first < 32 }
     requires last { last < 32 }
     ensures { IsTrue result ↔ Reaches edges.now first last }

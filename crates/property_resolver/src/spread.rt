@@ -1,8 +1,8 @@
-ghost use Rattle.std.specs.Prelude.{◌≡◌, ◌+◌, ◌<◌, ◌≤◌, Contains, OnOk, IfErr, length, slice_get, Some};
+ghost use Rattle.std.specs.Prelude.{◌≡◌, ◌+◌, ◌≤◌, Contains, OnOk, IfErr, slice_get, Some};
 ghost use Rattle.graph_core.specs.Derivation.{IsDerivation, IsSpread};
-ghost use Rattle.graph_core.specs.Ports.{FitsKind, IsProperty, port_count};
+ghost use Rattle.graph_core.specs.Ports.{FitsKind};
 ghost use Rattle.property_resolver.specs.Causes.{IsCause};
-ghost use Rattle.property_resolver.specs.Spreads.{Grows, EdgesSpread, PortsSpread};
+ghost use Rattle.property_resolver.specs.Spreads.{AllEdgesSpread, Grows, SideSpread};
 ghost use Rattle.property_resolver.specs.Work.{edge_work};
 
 use crate::learn::learn;
@@ -23,7 +23,7 @@ fn spread_edges<L: Ledger>(
     requires derived { IsDerivation graph.now.diagram values.old }
     requires held { Contains values.old (at, value) }
     ensures grows { OnOk result (Grows graph.now.diagram values.old values.new) }
-    ensures spread { OnOk result (EdgesSpread graph.now.diagram.edges (length graph.now.diagram.edges) values.new at value) }
+    ensures spread { OnOk result (AllEdgesSpread graph.now.diagram values.new at value) }
     ensures cause { IfErr result (IsCause graph.now.diagram) }
     ensures rises { steps.old ≤ steps.new }
     ensures cost { steps.new ≤ steps.old + edge_work graph.now.diagram.edges at }
@@ -52,7 +52,7 @@ fn spread_side(
     requires stands { slice_get graph.now.diagram.kinds at.block ≡ Some kind }
     requires kind { FitsKind kind }
     ensures grows { OnOk result (Grows graph.now.diagram values.old values.new) }
-    ensures spread { OnOk result (PortsSpread kind side (port_count side kind) values.new at value) }
+    ensures spread { OnOk result (SideSpread kind side values.new at value) }
     ensures cause { IfErr result (IsCause graph.now.diagram) }
 {
     for port in 0..port_count(kind, side) {

@@ -86,7 +86,7 @@ fn rate_out(block: u16) -> PropAt {
     property(block, Side::Out, 0, Prop::Rate)
 }
 
-/// A graph of these blocks and edges, with rate, item 4 and spp 2 set at the first output of block 0.
+/// A graph of these blocks and edges; block 0 has the rate, item 4 and spp 2 set at its output.
 fn build(alloc: Global, kinds: &[BlockKind], links: &[Link], rate: u64) -> Result<Graph, Memory> {
     let mut graph = Graph::new(alloc);
     for kind in kinds {

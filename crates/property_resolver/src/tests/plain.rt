@@ -9,7 +9,7 @@ use rf_base::Memory;
 use std::alloc::Global;
 use std::test::Fail;
 
-/// What the sweeps found: values for all, two that differ or a rule that fails, or a first property without one.
+/// What the sweeps found: values for all, two that differ or none that fits, or one that lacks.
 #[derive(Clone, Copy, Debug, PartialEq, Eq)]
 enum Found {
     Settled,
@@ -82,7 +82,7 @@ fn meets(values: &mut Values, at: PropAt, value: u64) -> Result<bool, Memory> {
     }
 }
 
-/// Applies what joins the two properties to the value of the first; false where it fails or differs.
+/// Applies what joins the two properties; false where it fails or the values differ.
 fn apply(graph: &Graph, values: &mut Values, from: PropAt, to: PropAt) -> Result<bool, Memory> {
     let Some(value) = values.get(from) else {
         return Ok(true);
