@@ -327,3 +327,7 @@ fails_more x y fault e = cases (frame_read x) refl e
 pub nothing_read : (fault : PacketFault) → packet_read [] ≡ failed fault → ⊥
 unfolding packet_read
 nothing_read fault e = absurd cc
+
+pub nothing_there : packet_read [] ≡ Ok None
+unfolding packet_read
+nothing_there = refl

@@ -130,6 +130,20 @@ impl Decoder {
         }
     }
 
+    /// The byte at which the bytes kept begin.
+    pub fn place(&self) -> u64
+        ensures { result ≡ self.now.at }
+    {
+        self.at
+    }
+
+    /// How many bytes are kept.
+    pub fn left(&self) -> usize
+        ensures { result ≡ length self.now.kept }
+    {
+        self.bytes.len() - self.start
+    }
+
     /// Whether the stream ends here: no bytes are left.
     pub fn finish(&self) -> Result<(), FinishFault>
         requires { reading self.now ≡ Ok None }

@@ -1,0 +1,13 @@
+//! Captures listed and checked.
+#![tactic(auto)]
+
+mod check;
+mod scan;
+mod seen;
+mod text;
+
+pub use check::check_capture;
+pub use seen::{Counts, Fault, Seen, Why};
+
+#[cfg(test)]
+mod tests;
