@@ -1,2 +1,4 @@
+pub mod BlockLemmas
+pub mod HistoryLemmas
 pub mod ProducerLemmas
 pub mod SampleLemmas

@@ -1,0 +1,25 @@
+use Rattle.std.proofs.Common.{arith, ap, rules, subst}
+use Rattle.std.proofs.lemmas.Grind.{common_steps}
+use Rattle.block_library.specs.Blocks.{FitsKind}
+use Rattle.block_library.specs.Memory.{Seen, kept, lists, made, gives, after_feed}
+use Rattle.block_library.proofs.HistoryLemmas.{goes_on, same_lists}
+use Rattle.block_library.proofs.block.Block.feed.Goals as goal
+
+pub returns-clause-first : goal.returns-clause-first
+unfolding made gives after_feed
+returns-clause-first c = first_of (search rules, grind (arith, common_steps))
+
+pub returns-clause-second : goal.returns-clause-second
+unfolding made gives after_feed
+returns-clause-second c = first_of (search rules, grind (arith, common_steps))
+
+pub returns-clause-next : goal.returns-clause-next
+unfolding made gives after_feed
+returns-clause-next c = first_of (search rules, grind (arith, common_steps))
+
+pub returns-clause-history : goal.returns-clause-history
+returns-clause-history c = λ fed stands.
+    goes_on c.args.self.now.kept _ fed c.args.port c.args.packet _ (subst (λ (seen : Seen). FitsKind seen.kept.kind) c.self.view_is c.self.invariant.0)
+    c.requires.port
+    (ap (λ (seen : Seen). seen.kept) (returns-clause-next c))
+    (same_lists _ _ _ _ (returns-clause-first c) (returns-clause-second c)) stands

@@ -1,0 +1,260 @@
+ghost use Rattle.std.specs.Prelude.{◌≡◌, ◌==◌, ◌/◌, ◌*◌, ◌+◌, ◌<◌, ◌≤◌, ◌++◌, ◌∷◌, ◌⊎◌, [], ℕ, ◌^◌, ◌-◌, IfOk, OnOk, length, vec_len, vec_capacity, if◌then◌else◌};
+ghost use Rattle.block_library.specs.Places.{IsAt};
+ghost use Rattle.block_library.specs.Blocks.{payload_in, time_in, samples_in, sample_at, kept_samples, resampled, repeated_samples, repeated_part, repeated_packet, replayed_group};
+
+use chdr_packets::{Body, Packet};
+use rf_base::{Copyable, Items, Memory};
+use std::alloc::Global;
+
+/// What is made before a packet is fed; `passed` has room for the packet itself.
+#[derive(Drop)]
+pub struct Made {
+    pub passed: Vec<Packet>,
+    pub first: Vec<Packet>,
+    pub second: Vec<Packet>,
+    ghost none: { passed.items ≡ [] },
+    ghost room: { vec_len passed < vec_capacity passed },
+}
+
+impl Made {
+    /// These packets beside the one that is fed.
+    pub fn of(alloc: Global, first: Vec<Packet>, second: Vec<Packet>) -> Result<Made, Memory>
+        ensures first { IfOk result (λ made. made.first.items ≡ first.items) }
+        ensures second { IfOk result (λ made. made.second.items ≡ second.items) }
+    {
+        Ok(Made {
+            passed: Vec::with_capacity(alloc, 1)?,
+            first,
+            second,
+        })
+    }
+}
+
+/// The time and the samples of a packet.
+fn samples_of(packet: &Packet) -> (Option<u64>, &[u8])
+    ensures time { result.0 ≡ time_in packet.now.body }
+    ensures payload { result.1.now ≡ payload_in packet.now.body }
+{
+    match &packet.body {
+        Body::Samples { time, payload } => (*time, payload.as_slice()),
+        Body::Status(_) | Body::Command(_) | Body::Control(_) | Body::Management(_) => (None, &[]),
+    }
+}
+
+/// How many samples a packet has.
+pub fn sample_count(item: u32, packet: &Packet) -> usize
+    requires { (item ≡ 4) ⊎ (item ≡ 8) }
+    ensures value { result ≡ samples_in item packet.now }
+    ensures small { result < 2 ^ 62 }
+{
+    samples_of(packet).1.len() / item as usize
+}
+
+/// One list of one copy.
+pub fn copied(alloc: Global, packet: &Packet) -> Result<Vec<Packet>, Memory>
+    ensures { IfOk result (λ made. made.items ≡ packet.now ∷ []) }
+{
+    let mut made = Vec::new(alloc);
+    made.push(packet.copy()?)?;
+    Ok(made)
+}
+
+/// The packet with the samples that keep leaves, where the first has this number modulo n.
+pub fn kept(
+    alloc: Global,
+    n: u16,
+    item: u32,
+    phase: u32,
+    packet: &Packet,
+) -> Result<Vec<Packet>, Memory>
+    requires n { 1 ≤ n }
+    requires item { (item ≡ 4) ⊎ (item ≡ 8) }
+    requires phase { phase < 1024 }
+    ensures { IfOk result (λ made. made.items ≡ resampled packet.now (kept_samples n item phase (payload_in packet.now.body) (samples_in item packet.now))) }
+{
+    let (time, samples) = samples_of(packet);
+    let bytes = kept_bytes(alloc, n, item, phase, samples)?;
+    let mut made = Vec::new(alloc);
+    if !bytes.is_empty() || packet.eob {
+        made.push(Packet {
+            vc: packet.vc,
+            eob: packet.eob,
+            eov: packet.eov,
+            seq: packet.seq,
+            dst: packet.dst,
+            mdata: packet.mdata.copy()?,
+            body: Body::Samples {
+                time,
+                payload: Items::from_vec(bytes),
+            },
+        })?;
+    }
+    Ok(made)
+}
+
+#[tactic(auto, using(crate::proofs::SampleLemmas::kept_samples_more))]
+fn kept_bytes(
+    alloc: Global,
+    n: u16,
+    item: u32,
+    phase: u32,
+    samples: &[u8],
+) -> Result<Vec<u8>, Memory>
+    requires n { 1 ≤ n }
+    requires item { (item ≡ 4) ⊎ (item ≡ 8) }
+    requires phase { phase < 1024 }
+    ensures { IfOk result (λ bytes. bytes.items ≡ kept_samples n item phase samples.now (length samples.now / item)) }
+{
+    let mut bytes = Vec::with_capacity(alloc, samples.len() / n as usize)?;
+    for i in 0..samples.len() / item as usize {
+        let keeps = (phase as usize + i) % n as usize == 0;
+        push_if(&mut bytes, keeps, samples, item, i)?;
+    }
+    Ok(bytes)
+}
+
+/// Appends a sample, where it is kept.
+#[tactic(auto, using(crate::proofs::SampleLemmas::sample_at_range))]
+fn push_if(
+    bytes: &mut Vec<u8>,
+    keeps: bool,
+    samples: &[u8],
+    item: u32,
+    index: usize,
+) -> Result<(), Memory>
+    requires item { (item ≡ 4) ⊎ (item ≡ 8) }
+    requires within { index < length samples.now / item }
+    ensures { IfOk result (λ _. bytes.new.items ≡ bytes.old.items ++ (if keeps then sample_at item samples.now index else [])) }
+{
+    if keeps {
+        let start = item as usize * index;
+        bytes.extend_from_slice(&samples[start..start + item as usize])?;
+    }
+    Ok(())
+}
+
+/// The packets that repeat makes of one.
+#[tactic(auto, unfolding(crate::specs::Blocks::repeated_packet))]
+pub fn repeated(alloc: Global, n: u16, item: u32, packet: &Packet) -> Result<Vec<Packet>, Memory>
+    requires n { 1 ≤ n }
+    requires high { n ≤ 16 }
+    requires item { (item ≡ 4) ⊎ (item ≡ 8) }
+    ensures { IfOk result (λ made. made.items ≡ repeated_packet n item packet.now) }
+{
+    if samples_of(packet).1.len() / item as usize == 0 {
+        return copied(alloc, packet);
+    }
+    let mut made = Vec::with_capacity(alloc, n as usize)?;
+    let mut place = Place { index: 0, turn: 0 };
+    for k in 0..n {
+        let next = part(alloc, n, item, packet, k, &mut place)?;
+        made.push(next)?;
+    }
+    Ok(made)
+}
+
+/// Where repeat stands in a packet: at this sample, of which so many are written.
+#[derive(Clone, Copy)]
+struct Place {
+    index: usize,
+    turn: u16,
+}
+
+/// Packet `k` of a repeated one.
+fn part(
+    alloc: Global,
+    n: u16,
+    item: u32,
+    packet: &Packet,
+    k: u16,
+    place: &mut Place,
+) -> Result<Packet, Memory>
+    requires within { k < n }
+    requires item { (item ≡ 4) ⊎ (item ≡ 8) }
+    requires place { IsAt n place.old (k * samples_in item packet.now) }
+    ensures part { IfOk result (λ made. made ≡ repeated_part n item packet.now k) }
+    ensures place { OnOk result (IsAt n place.new ((k + 1) * samples_in item packet.now)) }
+{
+    let (time, samples) = samples_of(packet);
+    let payload = Items::from_vec(repeated_bytes(alloc, n, item, samples, k, place)?);
+    let last = k + 1 == n;
+    Ok(Packet {
+        vc: packet.vc,
+        eob: packet.eob && last,
+        eov: packet.eov && last,
+        seq: packet.seq,
+        dst: packet.dst,
+        mdata: packet.mdata.copy()?,
+        body: Body::Samples {
+            time: if k == 0 { time } else { None },
+            payload,
+        },
+    })
+}
+
+fn repeated_bytes(
+    alloc: Global,
+    n: u16,
+    item: u32,
+    samples: &[u8],
+    k: u16,
+    place: &mut Place,
+) -> Result<Vec<u8>, Memory>
+    requires within { k < n }
+    requires item { (item ≡ 4) ⊎ (item ≡ 8) }
+    requires place { IsAt n place.old (k * (length samples.now / item)) }
+    ensures bytes { IfOk result (λ bytes. let count = length samples.now / item in bytes.items ≡ repeated_samples n item samples.now (k * count) count) }
+    ensures place { OnOk result (IsAt n place.new ((k + 1) * (length samples.now / item))) }
+{
+    let count = samples.len() / item as usize;
+    let mut bytes = Vec::with_capacity(alloc, samples.len())?;
+    for _i in 0..count {
+        let index = place.index;
+        prove!(index < count);
+        push_if(&mut bytes, true, samples, item, index)?;
+        place.step(n);
+    }
+    Ok(bytes)
+}
+
+impl Place {
+    fn step(&mut self, n: u16)
+        requires turn { self.old.turn < n }
+        requires low { self.old.index < 2 ^ 64 - 1 }
+        ensures { IsAt n self.new (self.old.index * n + self.old.turn + 1) }
+    {
+        self.turn += 1;
+        if self.turn == n {
+            self.turn = 0;
+            self.index += 1;
+        }
+    }
+}
+
+/// The group with the packet, n times.
+#[tactic(auto, unfolding(crate::specs::Blocks::replayed_group), using(crate::proofs::SampleLemmas::flat_map_more))]
+pub fn replayed(
+    alloc: Global,
+    n: u16,
+    group: &[Packet],
+    packet: &Packet,
+) -> Result<Vec<Packet>, Memory>
+    requires { n ≤ 16 }
+    ensures { IfOk result (λ made. made.items ≡ replayed_group n (group.now ++ packet.now ∷ [])) }
+{
+    let mut made = Vec::new(alloc);
+    for _turn in 0..n {
+        push_group(&mut made, group, packet)?;
+    }
+    Ok(made)
+}
+
+fn push_group(made: &mut Vec<Packet>, group: &[Packet], packet: &Packet) -> Result<(), Memory>
+    ensures { IfOk result (λ _. made.new.items ≡ made.old.items ++ (group.now ++ packet.now ∷ [])) }
+{
+    for member in group {
+        made.push(member.copy()?)?;
+    }
+    made.push(packet.copy()?)?;
+    Ok(())
+}
