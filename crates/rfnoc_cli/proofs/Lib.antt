@@ -1,0 +1,8 @@
+pub mod Lengths
+pub mod LineLemmas
+pub mod ReportLemmas
+pub mod MoveLemmas
+pub mod NextLemmas
+pub mod UnderWay
+pub mod StraightLemmas
+pub mod InputLemmas

@@ -1,0 +1,22 @@
+//! The program `rfnoc` as one call over a source and a sink.
+#![tactic(auto)]
+
+mod book;
+mod form;
+mod input;
+mod line;
+mod parts;
+mod perform;
+mod run;
+mod straight;
+mod texts;
+mod top;
+mod words;
+
+pub use book::{Book, BookList, Books, Ends, Lines, RunBook, TakenLists, Tallies};
+pub use input::{SCRIPT_LIMIT, read_form};
+pub use line::Line;
+pub use run::run_one;
+pub use straight::Straight;
+pub use texts::report;
+pub use top::rfnoc;
