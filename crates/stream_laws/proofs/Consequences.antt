@@ -3,12 +3,13 @@ use Rattle.std.proofs.Common.{◌≡◌, ℕ, zero, suc, ◌+◌, ◌-◌, ◌<�
 use Rattle.std.proofs.lemmas.List.{length-take-le, take-append-drop}
 use mathlib.Core.List.{IsPrefix}
 use Rattle.stream_endpoint.specs.Counts.{less_modulo, spelled, spelled_less}
+use Rattle.stream_endpoint.specs.InEnd.{code_by, info_by}
 use Rattle.stream_laws.specs.Machine.{Cut, Load, State, Terms, opens}
 use Rattle.stream_laws.specs.Acts.{Act, IsLegal, after, after_all}
 use Rattle.stream_laws.specs.Chains.{IsLost, flying, packets_told, bytes_told}
 use Rattle.stream_laws.specs.Epochs.{EachEpoch, IsEpoch, begun, origin, reach}
 use Rattle.stream_laws.specs.Invariant.{Received}
-use Rattle.stream_laws.specs.Laws.{HasFewEpochs, HasRoomAhead, IsBrokenByLoss, IsCut, IsEpochwise, IsRun, IsTakenOfGiven, IsWithin, GoesOn, Joins, NumbersGoOn, NumbersTell, ReadsBack, StopsAtLoss, TellsTotals, piece}
+use Rattle.stream_laws.specs.Laws.{HasFewEpochs, HasRoomAhead, IsBrokenByLoss, IsCut, IsEpochwise, IsRun, IsTakenOfGiven, IsWithin, GoesOn, Joins, NumbersGoOn, NumbersTell, ReadsBack, ReportsGap, StopsAtLoss, TellsTotals, piece}
 use Rattle.stream_laws.specs.Talk.{Holds}
 use Rattle.stream_laws.proofs.Chains.{rises_le, stand_count}
 use Rattle.stream_laws.proofs.Places.{epochs_last, near}
@@ -116,6 +117,9 @@ room_ahead terms st run place load rest e good number =
 
 pub few_epochs : {A : Type 0} (terms : Terms) (st : State A) → IsRun terms st → HasFewEpochs terms st
 few_epochs terms st run = let p = (holds_run terms st run).paid.ended in omega arith
+
+pub reports_gap : {A : Type 0} (terms : Terms) (st : State A) → IsRun terms st → ReportsGap terms st
+reports_gap terms st run gap broken = (ap code_by broken, ap info_by broken)
 
 pub broken_by_loss : {A : Type 0} (terms : Terms) (st : State A) → IsRun terms st → IsBrokenByLoss terms st
 broken_by_loss {A} terms st run gap broken =

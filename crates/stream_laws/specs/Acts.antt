@@ -24,7 +24,8 @@ pub data Act (A : Type 0) : Type 0 where
   Enter : Load A → List (Load A) → Act A
   -- the sender gives a command
   Order : CmdOp → Act A
-  -- the packet at this place arrives, and these are still under way: it is kept, breaks the receiver, or is discarded
+  -- the packet at this place arrives, and these are still under way: it is kept, breaks the receiver,
+  -- or is discarded
   Keep : ℕ → Load A → List (Entry A) → Act A
   Break : ℕ → Load A → List (Entry A) → Act A
   Discard : ℕ → Load A → List (Entry A) → Act A

@@ -59,7 +59,8 @@ IsLost (place ∷ lost) k = (k ≡ place) ⊎ IsLost lost k
 abbrev pub AllLost : List ℕ → ℕ → ℕ → Type 0
 AllLost lost lo hi = (k : ℕ) → lo ≤ k → k < hi → IsLost lost k
 
--- the packets under way stand in the order of their places, from lo up to hi; of these places the others were lost
+-- the packets under way stand in the order of their places, from lo up to hi; of these places the
+-- others were lost
 abbrev pub Stand : {A : Type 0} → List ℕ → ℕ → List (Entry A) → ℕ → Type 0
 Stand lost lo [] hi = (lo ≤ hi) × AllLost lost lo hi
 Stand lost lo (Data place load ∷ es) hi =

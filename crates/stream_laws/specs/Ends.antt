@@ -17,11 +17,13 @@ pub record IsDrained {A : Type 0} (st : State A) : Type 0 where
 
 -- A drained stream that lost no packet has given, and its consumer has taken, all that was sent.
 abbrev pub GivesAll : {A : Type 0} → Terms → State A → Type 0
-GivesAll terms st = IsDrained st → st.lost ≡ [] → (st.given ≡ st.sent) × (take st.taken st.given ≡ st.sent)
+GivesAll terms st = IsDrained st → st.lost ≡ []
+    → (st.given ≡ st.sent) × (take st.taken st.given ≡ st.sent)
 
 -- A drained stream stays drained, whatever happens.
 abbrev pub StaysDrained : {A : Type 0} → Terms → State A → Type 0
-StaysDrained {A} terms st = IsDrained st → (act : Act A) → Allowed terms st act → IsDrained (after terms st act)
+StaysDrained {A} terms st = IsDrained st → (act : Act A) → Allowed terms st act
+    → IsDrained (after terms st act)
 
 -- an act of the stream itself: neither its producer's, nor a loss
 abbrev pub IsOwn : {A : Type 0} → Act A → Type 0
@@ -57,7 +59,8 @@ pub record Waits {A : Type 0} (st : State A) : Type 0 where
   pub none_ready : st.ready ≡ []
   pub goes_on : st.closed ≡ false
 
--- A quiet stream whose sender can do nothing is drained, or halted by a loss, or waits for its producer.
+-- A quiet stream whose sender can do nothing is drained, or halted by a loss, or waits for its
+-- producer.
 abbrev pub EndsWell : {A : Type 0} → Terms → State A → Type 0
 EndsWell {A} terms st = IsQuiet st
     → ((load : Load A) (rest : List (Load A)) → Allowed terms st (Enter load rest) → ⊥)

@@ -1,5 +1,6 @@
--- A worked run of six packets with five losses: one packet in the middle and the last one, a RESYNC, an answer,
--- and a status. The receiver breaks once, a PING finds the second gap, and the stream drains in its fourth epoch.
+-- A worked run of six packets with five losses: a packet in the middle and the last one, a RESYNC, an
+-- answer, and a status. The receiver breaks once, a PING finds the second gap, and the stream drains in
+-- its fourth epoch.
 use Rattle.std.specs.Prelude.{◌≡◌, ℕ, ◌+◌, ◌*◌, ◌%◌, ◌^◌, Some, None, List, [], ◌∷◌}
 use Rattle.chdr_words.specs.declared.command.CmdOp.TheVariants.{Init, Ping, Resync}
 use Rattle.stream_endpoint.specs.declared.count.Count.{Count}
@@ -92,6 +93,7 @@ pub record IsWorked (start : ℕ) : Type 0 where
   pub sent : (left start).sent ≡ load 0 ∷ load 1 ∷ load 2 ∷ load 3 ∷ load 4 ∷ load 5 ∷ []
   pub given : (left start).given ≡ load 0 ∷ load 4 ∷ []
   pub lost : (left start).lost ≡ 5 ∷ 1 ∷ []
-  pub cuts : (left start).cuts ≡ record { sent = 6; given = 2 } ∷ record { sent = 4; given = 1 } ∷ record { sent = 4; given = 1 } ∷ []
+  pub cuts : (left start).cuts ≡ record { sent = 6; given = 2 } ∷ record { sent = 4; given = 1 }
+      ∷ record { sent = 4; given = 1 } ∷ []
   pub losses : (left start).losses ≡ 5
   pub drained : IsDrained (left start)

@@ -10,7 +10,8 @@ use Rattle.stream_laws.specs.Machine.{Cut, Entry, Load, Told, count_of}
 use Rattle.stream_laws.specs.Chains.{AreSent, IsLost, Rises, Stand, bytes_told, good_told, packets_told}
 
 -- the counts of both ends are those of the lists
-pub record Counted {A : Type 0} (start : Count) (sent given : List (Load A)) (taken : ℕ) (total buffered : Count) : Type 0 where
+pub record Counted {A : Type 0} (start : Count) (sent given : List (Load A)) (taken : ℕ)
+    (total buffered : Count) : Type 0 where
   pub sent_packets : total.packets ≡ start.packets + length sent
   pub sent_bytes : total.bytes ≡ start.bytes + (count_of sent).bytes
   pub held_packets : buffered.packets + taken ≡ length given
@@ -37,7 +38,8 @@ pub record Rising (known transferred : Count) (back : List Told) : Type 0 where
   pub bytes : Rises bytes_told known.bytes back transferred.bytes
 
 -- the packets under way are those sent, in order, and only sent ones were lost
-pub record Ordered {A : Type 0} (sent : List (Load A)) (lost : List ℕ) (next : ℕ) (forward : List (Entry A)) : Type 0 where
+pub record Ordered {A : Type 0} (sent : List (Load A)) (lost : List ℕ) (next : ℕ)
+    (forward : List (Entry A)) : Type 0 where
   pub stand : Stand lost next forward (length sent)
   pub same : AreSent sent forward
   pub past : (k : ℕ) → IsLost lost k → k < length sent
@@ -58,7 +60,8 @@ HasShape start reached next lost None = start + next ≡ reached
 HasShape start reached next lost (Some gap) = IsTorn start reached next lost gap
 
 -- how far the receiver has come in this epoch; all counts here are packets
-pub record Received {A : Type 0} (start reached next : ℕ) (given : List (Load A)) (lost : List ℕ) (from : Cut) (broken : Option Gap) : Type 0 where
+pub record Received {A : Type 0} (start reached next : ℕ) (given : List (Load A)) (lost : List ℕ)
+    (from : Cut) (broken : Option Gap) : Type 0 where
   pub reached_is : reached + from.given ≡ start + from.sent + length given
   pub from_here : from.given ≤ length given
   pub passed : reached ≤ start + next
@@ -74,11 +77,14 @@ abbrev pub goods : List Told → ℕ
 goods [] = 0
 goods (s ∷ ss) = good_told s + goods ss
 
--- Of the epochs that have ended each was paid by a loss, and where another cut may come without one, one more loss was there.
-pub record Paid (state : OutState) (missing : ℕ) (cuts : List Cut) (back : List Told) (due : Bool) (losses : ℕ) : Type 0 where
+-- Of the epochs that have ended each was paid by a loss, and where another cut may come without one,
+-- one more loss was there.
+pub record Paid (state : OutState) (missing : ℕ) (cuts : List Cut) (back : List Told) (due : Bool)
+    (losses : ℕ) : Type 0 where
   pub ended : length cuts ≤ losses
   pub broken_off : 1 ≤ missing → length cuts + 1 ≤ losses
-  pub unanswered : state ≡ Resyncing → missing ≡ 0 → goods back + dues due ≡ 0 → length cuts + 1 ≤ losses
+  pub unanswered : state ≡ Resyncing → missing ≡ 0 → goods back + dues due ≡ 0
+      → length cuts + 1 ≤ losses
 
 -- as long as no packet was lost nothing is amiss
 pub record Unhurt (state : OutState) (missing : ℕ) (cuts : List Cut) (lost : List ℕ) : Type 0 where

@@ -1,14 +1,16 @@
 -- The laws of a stream: what holds in each state that a legal run leaves.
-use Rattle.std.specs.Prelude.{◌≡◌, ℕ, ◌+◌, ◌-◌, ◌<◌, ◌≤◌, Some, List, ◌∷◌, length, take, drop}
+use Rattle.std.specs.Prelude.{◌≡◌, ℕ, ◌+◌, ◌-◌, ◌*◌, ◌<◌, ◌≤◌, Some, List, ◌∷◌, length, take, drop}
 use mathlib.Core.List.{IsPrefix}
 use Rattle.chdr_words.specs.declared.command.CmdOp.TheVariants.{Resync}
+use Rattle.chdr_words.specs.declared.status.StatusCode.TheVariants.{SeqErr}
 use Rattle.stream_endpoint.specs.declared.count.Count.{Count}
 use Rattle.stream_endpoint.specs.declared.state.Gap.{Gap}
 use Rattle.stream_endpoint.specs.Counts.{less, spelled, spelled_less}
 use Rattle.stream_endpoint.specs.Flow.{IsValid}
+use Rattle.stream_endpoint.specs.InEnd.{code_by, info_by}
 use Rattle.stream_endpoint.specs.Receiver.{FindsRoom, expected}
 use Rattle.stream_endpoint.specs.Sender.{known, next_number}
-use Rattle.stream_laws.specs.Machine.{Entry, Data, Command, Load, State, Terms, Told, count_of, number_at, opens}
+use Rattle.stream_laws.specs.Machine.{Entry, Data, Command, Load, State, Terms, Told, count_of, number_at, opens, told_by}
 use Rattle.stream_laws.specs.Acts.{Act, Allowed, Leads, after}
 use Rattle.stream_laws.specs.Chains.{IsLost}
 use Rattle.stream_laws.specs.Epochs.{EachEpoch, begun, reach}
@@ -34,11 +36,13 @@ IsEpochwise terms st = EachEpoch
 
 -- The cuts stand in order, so that the pieces between them make up all that was sent and given.
 abbrev pub IsCut : {A : Type 0} → Terms → State A → Type 0
-IsCut terms st = EachEpoch (λ from here. (from.sent ≤ here.sent) × (from.given ≤ here.given)) st.cuts (reach st.sent st.given)
+IsCut terms st = EachEpoch (λ from here. (from.sent ≤ here.sent) × (from.given ≤ here.given)) st.cuts
+    (reach st.sent st.given)
 
 -- What was taken, the first `taken` packets of what was given, is all there.
 abbrev pub IsTakenOfGiven : {A : Type 0} → Terms → State A → Type 0
-IsTakenOfGiven terms st = (length (take st.taken st.given) ≡ st.taken) × IsPrefix (take st.taken st.given) st.given
+IsTakenOfGiven terms st = (length (take st.taken st.given) ≡ st.taken)
+    × IsPrefix (take st.taken st.given) st.given
 
 -- What was sent and isn't known to be taken is within the capacity.
 pub record IsWithin {A : Type 0} (terms : Terms) (st : State A) : Type 0 where
@@ -49,7 +53,8 @@ pub record IsWithin {A : Type 0} (terms : Terms) (st : State A) : Type 0 where
 
 -- A packet that arrives and is kept finds room.
 abbrev pub HasRoomAhead : {A : Type 0} → Terms → State A → Type 0
-HasRoomAhead {A} terms st = (place : ℕ) (load : Load A) (rest : List (Entry A)) → st.forward ≡ Data place load ∷ rest
+HasRoomAhead {A} terms st = (place : ℕ) (load : Load A) (rest : List (Entry A))
+    → st.forward ≡ Data place load ∷ rest
     → FindsRoom terms.flow st.receiver (number_at terms place) load.wire
 
 -- the first place of the present epoch whose packet was lost
@@ -59,7 +64,8 @@ pub record IsGap {A : Type 0} (st : State A) (place : ℕ) : Type 0 where
   pub lost : IsLost st.lost place
   pub first : (k : ℕ) → IsLost st.lost k → (begun st.cuts).sent ≤ k → place ≤ k
 
--- A gap's two numbers: that of the first packet of the epoch that was lost, and that of the first later one that wasn't.
+-- A gap's two numbers: that of the first packet of the epoch that was lost, and that of the first later
+-- one that wasn't.
 pub record IsTold {A : Type 0} (terms : Terms) (st : State A) (gap : Gap) : Type 0 where
   pub place : ℕ
   pub later : ℕ
@@ -75,10 +81,17 @@ pub record IsTold {A : Type 0} (terms : Terms) (st : State A) (gap : Gap) : Type
 abbrev pub IsBrokenByLoss : {A : Type 0} → Terms → State A → Type 0
 IsBrokenByLoss terms st = (gap : Gap) → st.receiver.broken ≡ Some gap → IsTold terms st gap
 
+-- A status that is reported while the receiver is broken is a SEQERR with both numbers.
+abbrev pub ReportsGap : {A : Type 0} → Terms → State A → Type 0
+ReportsGap terms st = (gap : Gap) → st.receiver.broken ≡ Some gap
+    → (code_by (told_by st.receiver).gap ≡ SeqErr)
+    × (info_by (told_by st.receiver).gap ≡ gap.expected * 65536 + gap.got)
+
 -- From a place of an epoch that was lost on, nothing of that epoch is given.
 abbrev pub StopsAtLoss : {A : Type 0} → Terms → State A → Type 0
 StopsAtLoss terms st = EachEpoch
-    (λ from here. (k : ℕ) → IsLost st.lost k → from.sent ≤ k → k < here.sent → from.sent + (here.given - from.given) ≤ k)
+    (λ from here. (k : ℕ) → IsLost st.lost k → from.sent ≤ k → k < here.sent
+    → from.sent + (here.given - from.given) ≤ k)
     st.cuts (reach st.sent st.given)
 
 -- how many epochs there are
@@ -96,12 +109,15 @@ ReadsBack terms st = (status : Told) (rest : List Told) → st.back ≡ status �
 
 -- A RESYNC that arrives tells all that was sent.
 abbrev pub TellsTotals : {A : Type 0} → Terms → State A → Type 0
-TellsTotals {A} terms st = (told : Count) (rest : List (Entry A)) → st.forward ≡ Command Resync told ∷ rest → told ≡ st.sender.sent
+TellsTotals {A} terms st = (told : Count) (rest : List (Entry A))
+    → st.forward ≡ Command Resync told ∷ rest → told ≡ st.sender.sent
 
 -- A packet that arrives at a good receiver has the expected number only at the expected place.
 abbrev pub NumbersTell : {A : Type 0} → Terms → State A → Type 0
-NumbersTell {A} terms st = (place : ℕ) (load : Load A) (rest : List (Entry A)) → st.forward ≡ Data place load ∷ rest
-    → number_at terms place ≡ expected st.receiver → terms.start.packets + place ≡ st.receiver.reached.packets
+NumbersTell {A} terms st = (place : ℕ) (load : Load A) (rest : List (Entry A))
+    → st.forward ≡ Data place load ∷ rest
+    → number_at terms place ≡ expected st.receiver
+    → terms.start.packets + place ≡ st.receiver.reached.packets
 
 -- The next packet's number is that of its place.
 abbrev pub NumbersGoOn : {A : Type 0} → Terms → State A → Type 0
@@ -109,7 +125,9 @@ NumbersGoOn terms st = next_number st.sender ≡ number_at terms (length st.sent
 
 -- runs go on by an act, and one after another
 abbrev pub GoesOn : Type 0 → Type 0
-GoesOn A = (terms : Terms) (from to : State A) (act : Act A) → Leads terms from to → Allowed terms to act → Leads terms from (after terms to act)
+GoesOn A = (terms : Terms) (from to : State A) (act : Act A) → Leads terms from to
+    → Allowed terms to act → Leads terms from (after terms to act)
 
 abbrev pub Joins : Type 0 → Type 0
-Joins A = (terms : Terms) (from mid to : State A) → Leads terms from mid → Leads terms mid to → Leads terms from to
+Joins A = (terms : Terms) (from mid to : State A) → Leads terms from mid → Leads terms mid to
+    → Leads terms from to

@@ -25,7 +25,8 @@ pub record Load (A : Type 0) : Type 0 where
 abbrev pub count_of : {A : Type 0} → List (Load A) → Count
 count_of loads = record { packets = length loads; bytes = sum_by (λ load. load.wire) loads }
 
--- under way from the producer: a packet with its place in what was sent, or a command with its whole counts
+-- under way from the producer: a packet with its place in what was sent, or a command with its whole
+-- counts
 pub data Entry (A : Type 0) : Type 0 where
   Data : ℕ → Load A → Entry A
   Command : CmdOp → Count → Entry A

@@ -1,4 +1,5 @@
--- Why commands end: a number of a stream that each command lowers, and that only sending and losing raise.
+-- Why commands end: a number of a stream that each command lowers, and that only sending and losing
+-- raise.
 use Rattle.std.specs.Prelude.{◌≡◌, ℕ, zero, suc, ◌+◌, ◌*◌, ◌<◌, ◌≤◌, Bool, true, false}
 use Rattle.chdr_words.specs.declared.command.CmdOp.{CmdOp}
 use Rattle.stream_endpoint.specs.declared.state.OutState.{OutState}
@@ -11,7 +12,8 @@ use Rattle.stream_laws.specs.Chains.{orders}
 use Rattle.stream_laws.specs.Invariant.{dues, goods}
 use Rattle.stream_laws.specs.Talk.{traffic}
 
--- how far a stream is from its end: by the sender's state, the packets missing in this epoch, and whether all that was sent is known
+-- how far a stream is from its end: by the sender's state, the packets missing in this epoch, and
+-- whether all that was sent is known
 abbrev pub phase_by : OutState → ℕ → Bool → ℕ
 phase_by Opening missing covered = 5
 phase_by Running zero true = 0
@@ -39,7 +41,8 @@ abbrev pub phase : {A : Type 0} → State A → ℕ
 phase st = phase_by st.sender.state st.missing.packets (is_covered st.sender)
 
 abbrev pub asked : {A : Type 0} → State A → ℕ
-asked st = asked_by st.sender.state st.missing.packets st.sender.pinging (traffic st.forward (is_due st.receiver) st.back)
+asked st = asked_by st.sender.state st.missing.packets st.sender.pinging
+    (traffic st.forward (is_due st.receiver) st.back)
     (orders st.forward) (goods st.back + dues (is_due st.receiver))
 
 -- twice the phase, and one more where no command is under way
@@ -75,4 +78,5 @@ StaysLow {A} terms st = (act : Act A) → IsPlain act → Allowed terms st act
 -- A command lowers the potential and leaves the phase.
 abbrev pub Lowers : {A : Type 0} → Terms → State A → Type 0
 Lowers {A} terms st = (op : CmdOp) → Allowed terms st (Order op)
-    → (phase (after terms st (Order op)) ≡ phase st) × (potential (after terms st (Order op)) < potential st)
+    → (phase (after terms st (Order op)) ≡ phase st)
+    × (potential (after terms st (Order op)) < potential st)

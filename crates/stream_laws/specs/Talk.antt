@@ -23,7 +23,8 @@ use Rattle.stream_laws.specs.Invariant.{Balanced, Counted, Credited, Ordered, Pa
 abbrev pub traffic : {A : Type 0} → List (Entry A) → Bool → List Told → ℕ
 traffic forward due back = orders forward + dues due + length back
 
-pub record InOpening {A : Type 0} (flow : Flow) (sent given : List (Load A)) (forward : List (Entry A)) (back : List Told) (due : Bool)
+pub record InOpening {A : Type 0} (flow : Flow) (sent given : List (Load A)) (forward : List (Entry A))
+    (back : List Told) (due : Bool)
     (broken : Option Gap) (missing : ℕ) (commanded : Bool) : Type 0 where
   pub none_sent : length sent ≡ 0
   pub none_given : length given ≡ 0
@@ -36,7 +37,8 @@ pub record InOpening {A : Type 0} (flow : Flow) (sent given : List (Load A)) (fo
   pub silent : commanded ≡ false → traffic forward due back ≡ 0
 
 -- from a PING to its answer nothing else goes on
-pub record IsPinging {A : Type 0} (flow : Flow) (outstanding moved held : Count) (closed : Bool) (ready : List (Load A))
+pub record IsPinging {A : Type 0} (flow : Flow) (outstanding moved held : Count) (closed : Bool)
+    (ready : List (Load A))
     (forward : List (Entry A)) (back : List Told) (due : Bool) : Type 0 where
   pub one : traffic forward due back ≤ 1
   pub no_data : (flying forward).packets ≡ 0
@@ -46,27 +48,32 @@ pub record IsPinging {A : Type 0} (flow : Flow) (outstanding moved held : Count)
   pub exact_packets : Rises packets_told moved.packets back moved.packets
   pub exact_bytes : Rises bytes_told moved.bytes back moved.bytes
 
-pub record InRunning {A : Type 0} (flow : Flow) (outstanding moved held : Count) (closed : Bool) (ready : List (Load A))
-    (forward : List (Entry A)) (back : List Told) (due : Bool) (broken : Option Gap) (missing : ℕ) (pinging : Bool) : Type 0 where
+pub record InRunning {A : Type 0} (flow : Flow) (outstanding moved held : Count) (closed : Bool)
+    (ready : List (Load A))
+    (forward : List (Entry A)) (back : List Told) (due : Bool) (broken : Option Gap) (missing : ℕ)
+    (pinging : Bool) : Type 0 where
   pub worse : Rises bad_told 0 back (badness broken)
   pub some_missing : badness broken ≤ missing
   pub order : EndsWith Ping none forward
   pub unasked : pinging ≡ false → orders forward ≡ 0
   pub asked : pinging ≡ true → IsPinging flow outstanding moved held closed ready forward back due
 
-pub record InHalted {A : Type 0} (policy : Policy) (forward : List (Entry A)) (missing : ℕ) : Type 0 where
+pub record InHalted {A : Type 0} (policy : Policy) (forward : List (Entry A))
+    (missing : ℕ) : Type 0 where
   pub off : policy ≡ Off
   pub some_missing : 1 ≤ missing
   pub no_order : orders forward ≡ 0
 
 -- no RESYNC of this state has arrived
-pub record IsBefore {A : Type 0} (held : ℕ) (forward : List (Entry A)) (back : List Told) (due : Bool) (broken : Option Gap) (commanded : Bool) : Type 0 where
+pub record IsBefore {A : Type 0} (held : ℕ) (forward : List (Entry A)) (back : List Told) (due : Bool)
+    (broken : Option Gap) (commanded : Bool) : Type 0 where
   pub all_bad : Rises good_told 0 back 0
   pub unsent : commanded ≡ false → orders forward ≡ 0
   pub still : goodness broken ≡ 1 → length back + dues due + (flying forward).packets + held ≡ 0
 
 -- a RESYNC of this state has arrived
-pub record IsBehind {A : Type 0} (held : ℕ) (forward : List (Entry A)) (back : List Told) (due : Bool) (broken : Option Gap) (commanded : Bool) : Type 0 where
+pub record IsBehind {A : Type 0} (held : ℕ) (forward : List (Entry A)) (back : List Told) (due : Bool)
+    (broken : Option Gap) (commanded : Bool) : Type 0 where
   pub no_data : (flying forward).packets ≡ 0
   pub good : goodness broken ≡ 1
   pub better : Rises good_told 0 back 1
@@ -74,7 +81,8 @@ pub record IsBehind {A : Type 0} (held : ℕ) (forward : List (Entry A)) (back :
   pub again : 1 ≤ orders forward → length back + dues due + held ≡ 0
 
 -- whether such a RESYNC has arrived shows in what is missing
-pub record InResyncing {A : Type 0} (policy : Policy) (total held : Count) (forward : List (Entry A)) (back : List Told) (due : Bool)
+pub record InResyncing {A : Type 0} (policy : Policy) (total held : Count) (forward : List (Entry A))
+    (back : List Told) (due : Bool)
     (broken : Option Gap) (missing : ℕ) (pinging commanded : Bool) : Type 0 where
   pub auto : policy ≡ Auto
   pub unasked : pinging ≡ false
@@ -85,21 +93,25 @@ pub record InResyncing {A : Type 0} (policy : Policy) (total held : Count) (forw
 abbrev pub Talk : {A : Type 0} → Terms → OutState → State A → Type 0
 Talk terms Opening st = InOpening terms.flow st.sent st.given st.forward st.back (is_due st.receiver)
     st.receiver.broken st.missing.packets st.sender.commanded
-Talk terms Running st = InRunning terms.flow st.sender.outstanding (transferred st.receiver) st.receiver.buffered st.closed st.ready
+Talk terms Running st = InRunning terms.flow st.sender.outstanding
+    (transferred st.receiver) st.receiver.buffered st.closed st.ready
     st.forward st.back (is_due st.receiver) st.receiver.broken st.missing.packets st.sender.pinging
 Talk terms Halted st = InHalted terms.policy st.forward st.missing.packets
-Talk terms Resyncing st = InResyncing terms.policy st.sender.sent st.receiver.buffered st.forward st.back (is_due st.receiver)
+Talk terms Resyncing st = InResyncing terms.policy st.sender.sent st.receiver.buffered st.forward
+    st.back (is_due st.receiver)
     st.receiver.broken st.missing.packets st.sender.pinging st.sender.commanded
 
 -- the whole invariant of a stream
 pub record Holds {A : Type 0} (terms : Terms) (st : State A) : Type 0 where
   pub small : AllByRecursion (λ load. load.wire ≤ terms.flow.cap_bytes) st.ready
   pub counted : Counted terms.start st.sent st.given st.taken st.sender.sent st.receiver.buffered
-  pub balanced : Balanced st.sender.sent st.receiver.reached st.receiver.buffered (flying st.forward) st.missing
+  pub balanced : Balanced st.sender.sent st.receiver.reached st.receiver.buffered
+      (flying st.forward) st.missing
   pub credited : Credited terms.flow st.sender.sent st.sender.outstanding
   pub rising : Rising (known st.sender) (transferred st.receiver) st.back
   pub ordered : Ordered st.sent st.lost st.next st.forward
-  pub received : Received terms.start.packets st.receiver.reached.packets st.next st.given st.lost (begun st.cuts) st.receiver.broken
+  pub received : Received terms.start.packets st.receiver.reached.packets st.next st.given st.lost
+      (begun st.cuts) st.receiver.broken
   pub epochs : EachEpoch (IsEpoch st.sent st.given st.lost) st.cuts (reach st.sent st.given)
   pub paid : Paid st.sender.state st.missing.packets st.cuts st.back (is_due st.receiver) st.losses
   pub unhurt : Unhurt st.sender.state st.missing.packets st.cuts st.lost

@@ -1,5 +1,5 @@
 ghost use Rattle.std.specs.Prelude.{◌-◌, ◌^◌};
-ghost use Rattle.stream_laws.specs.Laws.{Always, GoesOn, HasFewEpochs, HasRoomAhead, IsBrokenByLoss, IsCut, IsEpochwise, IsTakenOfGiven, IsWithin, Joins, NumbersGoOn, NumbersTell, ReadsBack, StopsAtLoss, TellsTotals};
+ghost use Rattle.stream_laws.specs.Laws.{Always, GoesOn, HasFewEpochs, HasRoomAhead, IsBrokenByLoss, IsCut, IsEpochwise, IsTakenOfGiven, IsWithin, Joins, NumbersGoOn, NumbersTell, ReadsBack, ReportsGap, StopsAtLoss, TellsTotals};
 ghost use Rattle.stream_laws.specs.Example.{IsWorked};
 ghost use Rattle.stream_laws.specs.Talk.{Holds};
 
@@ -32,6 +32,7 @@ pub fn room<P>()
 /// A receiver is broken only in an epoch with a gap, and tells the gap's two numbers.
 pub fn broken_by_loss<P>()
     ensures law { Always {A = P} IsBrokenByLoss }
+    ensures reported { Always {A = P} ReportsGap }
 {}
 
 /// Nothing from a lost packet of an epoch on is given in that epoch.
