@@ -1,5 +1,6 @@
 -- The report: a line for each command, with a run's streams and sinks under it, and the last line.
-use Rattle.std.specs.Prelude.{ℕ, ◌+◌, ◌-◌, ◌^◌, ◌==◌, min, List, [], ◌∷◌, ◌++◌, length, sum_by, if◌then◌else◌, Option, None, Some, codes, decimal}
+use Rattle.std.specs.Prelude.{ℕ, ◌+◌, ◌-◌, ◌^◌, ◌==◌, min, List, [], ◌∷◌, ◌++◌, length, sum_by, if◌then◌else◌, Option, None, Some, codes, decimal, ◌≡◌, Result, OnOk, String, string_bytes}
+use Rattle.std.specs.declared.alloc.Global.{Global}
 use Rattle.fabric_core.specs.declared.tally.StreamEnd.{StreamEnd}
 use Rattle.fabric_core.specs.declared.tally.StreamEnd.TheVariants.{Drained, Broken, Undrained}
 use Rattle.fabric_core.specs.declared.tally.Tally.{Tally}
@@ -13,6 +14,10 @@ infixr 45 ◌&◌
 -- one text after another
 abbrev pub ◌&◌ : List ℕ → List ℕ → List ℕ
 xs & ys = xs ++ ys
+
+-- a call that answers Ok appends this to a text
+abbrev pub Pushes : {T E : Type 0} → Result T E → String Global → String Global → List ℕ → Type 0
+Pushes result old new text = OnOk result (string_bytes new ≡ string_bytes old ++ text)
 
 abbrev pub end_text : StreamEnd → List ℕ
 end_text Drained = codes "drained"

@@ -221,7 +221,8 @@ fn whole_item(item: u64) -> Option<u32>
 }
 
 fn set_value(command: Option<&Value>, property: &str, low: u64, high: u64) -> Option<u64>
-    ensures value { result ≡ set_value property.now low high (option_map (λ v. view v.now) command.entry) }
+    ensures value { result
+        ≡ set_value property.now low high (option_map (λ v. view v.now) command.entry) }
     ensures low { IfSome result (λ n. low ≤ n) }
     ensures high { IfSome result (λ n. n ≤ high) }
 {

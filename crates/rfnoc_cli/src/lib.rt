@@ -20,3 +20,6 @@ pub use run::run_one;
 pub use straight::Straight;
 pub use texts::report;
 pub use top::rfnoc;
+
+#[cfg(test)]
+mod tests;

@@ -32,8 +32,10 @@ pub(crate) fn tell_run<K: Sink>(
     requires empty { books.old ≡ [] }
     ensures known { (result ≡ 0) ⊎ (result ≡ 4) ⊎ (result ≡ 5) }
     ensures performed { (result ≡ 0) ⊎ (result ≡ 4) → IsPerformed straight books.new }
-    ensures done { result ≡ 0 → Adds (K.written out.old) (K.written out.new) (report_of straight books.new) }
-    ensures prefix { result ≡ 4 → AddsPrefix (K.written out.old) (K.written out.new) (report_of straight books.new) }
+    ensures done { result ≡ 0 →
+        Adds (K.written out.old) (K.written out.new) (report_of straight books.new) }
+    ensures prefix { result ≡ 4 →
+        AddsPrefix (K.written out.old) (K.written out.new) (report_of straight books.new) }
     ensures failed { result ≡ 4 → Rose (K.faults out.old) (K.faults out.new) }
     ensures memory { result ≡ 5 → out.new ≡ out.old }
 {

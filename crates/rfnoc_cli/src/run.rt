@@ -55,10 +55,12 @@ fn advance(net: &mut Net, event: Event) -> Result<(), Memory>
     requires one { IsOne net.old.present }
     requires doable { IsTrue (doable net.old.present event) }
     ensures one { OnOk result (IsOne net.new.present) }
-    ensures machine { OnOk result ((w : State) → Stands net.old w → Stands net.new (after w event)) }
+    ensures machine { OnOk result
+        ((w : State) → Stands net.old w → Stands net.new (after w event)) }
     ensures journal { OnOk result (net.new.journal ≡ net.old.journal ++ event ∷ []) }
     ensures left { OnOk result (left_of net.new.present < left_of net.old.present) }
-    ensures handed { OnOk result ((k : ℕ) → given_of net.old.present ≡ k + length (waiting_of net.old.present) →
+    ensures handed { OnOk result ((k : ℕ) →
+        given_of net.old.present ≡ k + length (waiting_of net.old.present) →
         given_of net.new.present ≡ k + length (waiting_of net.new.present)) }
 {
     net.prepare(event)?;
@@ -92,7 +94,8 @@ fn hand_one(net: &mut Net) -> Option<Packet>
     ensures journal { net.new.journal ≡ net.old.journal }
     ensures left { left_of net.new.present ≡ left_of net.old.present }
     ensures given { given_of net.new.present ≡ given_of net.old.present }
-    ensures next { MatchOption result ((waiting_of net.old.present ≡ []) × (waiting_of net.new.present ≡ []))
+    ensures next { MatchOption result
+        ((waiting_of net.old.present ≡ []) × (waiting_of net.new.present ≡ []))
         (λ packet. waiting_of net.old.present ≡ packet ∷ waiting_of net.new.present) }
 {
     net.hand(0)
@@ -111,8 +114,10 @@ fn book_of(
     ensures journal { IfOk result (λ book. book.journal ≡ net.now.journal) }
     ensures taken { IfOk result (λ book. book.taken ≡ taken ∷ []) }
     ensures lines { IfOk result (λ book. book.lines ≡ line_of block item taken ∷ []) }
-    ensures ends { IfOk result (λ book. (w : State) → Stands net.now w → book.ends ≡ end_of w 0 ∷ []) }
-    ensures tallies { IfOk result (λ book. (w : State) → Stands net.now w → book.tallies ≡ tally_of w 0 ∷ []) }
+    ensures ends { IfOk result
+        (λ book. (w : State) → Stands net.now w → book.ends ≡ end_of w 0 ∷ []) }
+    ensures tallies { IfOk result
+        (λ book. (w : State) → Stands net.now w → book.tallies ≡ tally_of w 0 ∷ []) }
 {
     let line = line_of(block, item, taken.as_slice());
     let events = Vec::from_slice(alloc, net.journal())?;

@@ -1,6 +1,6 @@
 //! The report, line by line.
-ghost use Rattle.std.specs.Prelude.{◌≡◌, ◌++◌, ◌≤◌, IfOk, OnOk, string_bytes, length, sum_by, codes, decimal};
-ghost use Rattle.rfnoc_cli.specs.Report.{◌&◌, end_text, stream_text, streams_text, sample_text, sink_text, sinks_text, run_text, kind_text, book_text, books_text, undrained_end, undrained_of, undrained, done_text, report_of};
+ghost use Rattle.std.specs.Prelude.{◌≡◌, ◌≤◌, IfOk, string_bytes, length, sum_by, codes, decimal};
+ghost use Rattle.rfnoc_cli.specs.Report.{◌&◌, Pushes, end_text, stream_text, streams_text, sample_text, sink_text, sinks_text, run_text, kind_text, book_text, books_text, undrained_end, undrained_of, undrained, done_text, report_of};
 
 use crate::{Book, Line, RunBook, Straight};
 use fabric_core::{StreamEnd, Tally};
@@ -19,7 +19,7 @@ pub fn report(alloc: Global, straight: &Straight, books: &[Book]) -> Result<Stri
 
 #[tactic(auto, using(crate::proofs::ReportLemmas::text_lemmas), unfolding(crate::specs::Report::books_text))]
 fn push_books(text: &mut String, straight: &Straight, books: &[Book]) -> Result<(), Memory>
-    ensures { OnOk result (string_bytes text.new ≡ string_bytes text.old ++ books_text straight.now 0 books.now) }
+    ensures { Pushes result text.old text.new (books_text straight.now 0 books.now) }
 {
     for number in 0..books.len() {
         push_numbered(text, straight, number, &books[number])?;
@@ -33,15 +33,15 @@ fn push_numbered(
     number: usize,
     book: &Book,
 ) -> Result<(), Memory>
-    ensures { OnOk result (string_bytes text.new ≡ string_bytes text.old
-        ++ ((decimal number & codes " ") & book_text straight.now book.now)) }
+    ensures { Pushes result text.old text.new
+        ((decimal number & codes " ") & book_text straight.now book.now) }
 {
     write!(text, "{number} ")?;
     push_book(text, straight, book)
 }
 
 fn push_book(text: &mut String, straight: &Straight, book: &Book) -> Result<(), Memory>
-    ensures { OnOk result (string_bytes text.new ≡ string_bytes text.old ++ book_text straight.now book.now) }
+    ensures { Pushes result text.old text.new (book_text straight.now book.now) }
 {
     match book {
         Book::Net => text.push_str("net nodes 2 links 1\n")?,
@@ -55,8 +55,8 @@ fn push_book(text: &mut String, straight: &Straight, book: &Book) -> Result<(), 
 }
 
 fn push_block(text: &mut String, block: u16) -> Result<(), Memory>
-    ensures { OnOk result (string_bytes text.new ≡ string_bytes text.old
-        ++ (codes "block " & decimal block & codes " " & kind_text block & codes "\n")) }
+    ensures { Pushes result text.old text.new
+        (codes "block " & decimal block & codes " " & kind_text block & codes "\n") }
 {
     let kind = if block == 0 { "tx" } else { "rx" };
     write!(text, "block {block} {kind}\n")?;
@@ -64,7 +64,7 @@ fn push_block(text: &mut String, block: u16) -> Result<(), Memory>
 }
 
 fn push_run(text: &mut String, straight: &Straight, run: &RunBook) -> Result<(), Memory>
-    ensures { OnOk result (string_bytes text.new ≡ string_bytes text.old ++ run_text straight.now run.now) }
+    ensures { Pushes result text.old text.new (run_text straight.now run.now) }
 {
     let count = run.ends.len();
     write!(text, "run streams {count}\n")?;
@@ -79,7 +79,7 @@ fn push_streams(
     ends: &[StreamEnd],
     tallies: &[Tally],
 ) -> Result<(), Memory>
-    ensures { OnOk result (string_bytes text.new ≡ string_bytes text.old ++ streams_text straight.now 0 ends.now tallies.now) }
+    ensures { Pushes result text.old text.new (streams_text straight.now 0 ends.now tallies.now) }
 {
     for stream in 0..ends.len().min(tallies.len()) {
         push_stream(text, straight, stream, ends[stream], tallies[stream])?;
@@ -94,7 +94,7 @@ fn push_stream(
     end: StreamEnd,
     tally: Tally,
 ) -> Result<(), Memory>
-    ensures { OnOk result (string_bytes text.new ≡ string_bytes text.old ++ stream_text straight.now stream end tally) }
+    ensures { Pushes result text.old text.new (stream_text straight.now stream end tally) }
 {
     let from = straight.from.0;
     let to = straight.to.0;
@@ -109,7 +109,7 @@ fn push_stream(
 }
 
 fn push_end(text: &mut String, end: StreamEnd) -> Result<(), Memory>
-    ensures { OnOk result (string_bytes text.new ≡ string_bytes text.old ++ (codes " " & end_text end & codes "\n")) }
+    ensures { Pushes result text.old text.new (codes " " & end_text end & codes "\n") }
 {
     match end {
         StreamEnd::Drained => text.push_str(" drained\n")?,
@@ -124,7 +124,7 @@ fn push_end(text: &mut String, end: StreamEnd) -> Result<(), Memory>
 
 #[tactic(auto, using(crate::proofs::ReportLemmas::text_lemmas), unfolding(crate::specs::Report::sinks_text))]
 fn push_sinks(text: &mut String, lines: &[Line]) -> Result<(), Memory>
-    ensures { OnOk result (string_bytes text.new ≡ string_bytes text.old ++ sinks_text lines.now) }
+    ensures { Pushes result text.old text.new (sinks_text lines.now) }
 {
     for line in lines {
         push_sink(text, line)?;
@@ -133,7 +133,7 @@ fn push_sinks(text: &mut String, lines: &[Line]) -> Result<(), Memory>
 }
 
 fn push_sink(text: &mut String, line: &Line) -> Result<(), Memory>
-    ensures { OnOk result (string_bytes text.new ≡ string_bytes text.old ++ sink_text line.now) }
+    ensures { Pushes result text.old text.new (sink_text line.now) }
 {
     let block = line.block;
     let packets = line.packets;
@@ -148,7 +148,7 @@ fn push_sink(text: &mut String, line: &Line) -> Result<(), Memory>
 }
 
 fn push_sample(text: &mut String, sample: Option<u64>) -> Result<(), Memory>
-    ensures { OnOk result (string_bytes text.new ≡ string_bytes text.old ++ sample_text sample) }
+    ensures { Pushes result text.old text.new (sample_text sample) }
 {
     match sample {
         Some(number) => write!(text, "{number}")?,
@@ -158,7 +158,7 @@ fn push_sample(text: &mut String, sample: Option<u64>) -> Result<(), Memory>
 }
 
 fn push_done(text: &mut String, books: &[Book]) -> Result<(), Memory>
-    ensures { OnOk result (string_bytes text.new ≡ string_bytes text.old ++ done_text books.now) }
+    ensures { Pushes result text.old text.new (done_text books.now) }
 {
     let commands = books.len();
     let left = undrained(books);

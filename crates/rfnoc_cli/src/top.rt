@@ -26,16 +26,20 @@ pub fn rfnoc<S: Source, K: Sink>(
     books: &mut Books,
 ) -> u8
     ensures known { result ≤ 6 }
-    ensures usage { (result ≡ 2) ↔ (is_run_one (map (λ word. string_bytes word) words.now) ≡ false) }
-    ensures untouched { result ≡ 2 → (src.new ≡ src.old) × (out.new ≡ out.old) × (books.new.list ≡ []) }
-    ensures read { result ≡ 3 → Rose (S.faults src.old) (S.faults src.new) × (out.new ≡ out.old) × (books.new.list ≡ []) }
+    ensures usage { (result ≡ 2)
+        ↔ (is_run_one (map (λ word. string_bytes word) words.now) ≡ false) }
+    ensures untouched { result ≡ 2 →
+        (src.new ≡ src.old) × (out.new ≡ out.old) × (books.new.list ≡ []) }
+    ensures read { result ≡ 3 → Rose (S.faults src.old) (S.faults src.new)
+        × (out.new ≡ out.old) × (books.new.list ≡ []) }
     ensures write { result ≡ 4 → Rose (K.faults out.old) (K.faults out.new)
         × WritesPrefix (S.left src.old) (K.written out.old) (K.written out.new) books.new.list }
     ensures memory { result ≡ 5 → out.new ≡ out.old }
     ensures refused { result ≡ 6 → IfSome (S.left src.old) IsRefused
         × Adds (K.written out.old) (K.written out.new) not_built × (books.new.list ≡ []) }
     ensures done { (result ≡ 0) ⊎ (result ≡ 1) →
-        (result ≡ 0) × IsDone (S.left src.old) (K.written out.old) (K.written out.new) books.new.list }
+        (result ≡ 0)
+        × IsDone (S.left src.old) (K.written out.old) (K.written out.new) books.new.list }
 {
     books.list = Items::new(alloc);
     if !is_run_one(words) {

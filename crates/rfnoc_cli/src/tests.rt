@@ -1,0 +1,357 @@
+use crate::{Book, Books, Straight, read_form, rfnoc};
+use chdr_words::{Bytes, Epid};
+use fabric_core::Event;
+use rf_base::Items;
+use rf_outside::{CountList, MemSink, MemSource};
+use std::alloc::{AllocError, Global};
+use std::test::Fail;
+
+const REPORT: &str =
+    "0 net nodes 2 links 1\n1 block 0 tx\n2 block 1 rx\n3 connect stream 0\n4 set\n5 set\n6 set\n7 commit\n8 run streams 1\nstream 0 1>2 sent 3 delivered 3 acked 3 epochs 1 drained\nrx 1 packets 3 samples 6 first 0 last 5\ndone commands 9 refused 0 undrained 0\n";
+
+const SCRIPT: &str = r#"{"rfnoc":1,"commands":[
+{"do":"net","nodes":[{"kind":"host","epid":1},{"kind":"host","epid":2}],
+ "links":[[0,0,1,0]]},
+{"do":"block","kind":"tx","out":[1],"packets":3},
+{"do":"block","kind":"rx","in":[2]},
+{"do":"connect","from":[0,0],"to":[1,0]},
+{"do":"set","block":0,"side":"out","port":0,"property":"rate","value":1000000},
+{"do":"set","block":0,"side":"out","port":0,"property":"item","value":4},
+{"do":"set","block":0,"side":"out","port":0,"property":"spp","value":2},
+{"do":"commit"},
+{"do":"run"}]}"#;
+
+/// The same script with every object's keys the other way round, and a key that stands twice.
+const TURNED: &str = r#"{"commands":[
+{"links":[[0,0,1,0]],"nodes":[{"epid":1,"kind":"host"},{"epid":2,"kind":"host"}],"do":"net"},
+{"packets":7,"out":[1],"packets":3,"kind":"tx","do":"block"},
+{"in":[2],"kind":"rx","do":"block"},
+{"to":[1,0],"from":[0,0],"do":"connect"},
+{"value":1000000,"property":"rate","port":0,"side":"out","block":0,"do":"set"},
+{"value":4,"property":"item","port":0,"side":"out","block":0,"do":"set"},
+{"value":2,"property":"spp","port":0,"side":"out","block":0,"do":"set"},
+{"do":"commit"},{"do":"run"}],"rfnoc":1}"#;
+
+/// What a call answered, with what it wrote.
+#[derive(Drop)]
+struct Told {
+    status: u8,
+    out: MemSink,
+    books: Books,
+}
+
+fn bytes_of(alloc: Global, bytes: &[u8]) -> Result<Bytes, AllocError> {
+    Ok(Items::from_vec(Vec::from_slice(alloc, bytes)?))
+}
+
+fn counts(alloc: Global, counts: &[u64]) -> Result<CountList, AllocError> {
+    Ok(Items::from_vec(Vec::from_slice(alloc, counts)?))
+}
+
+fn words_of(alloc: Global, words: &[&str]) -> Result<Vec<String>, Fail> {
+    let mut list = Vec::new(alloc);
+    for word in words {
+        list.push(String::from_str(alloc, *word)?)?;
+    }
+    Ok(list)
+}
+
+/// Calls the program with a sink that cuts and fails by lists.
+fn call(
+    alloc: Global,
+    words: &[&str],
+    mut src: MemSource,
+    cuts: CountList,
+    fails: CountList,
+) -> Result<Told, Fail> {
+    let words = words_of(alloc, words)?;
+    let mut out = MemSink::new(alloc, cuts, fails, 4096)?;
+    let mut books = Books {
+        list: Items::new(alloc),
+    };
+    let status = rfnoc(alloc, words.as_slice(), &mut src, &mut out, &mut books);
+    Ok(Told { status, out, books })
+}
+
+/// Runs these bytes with ample of everything.
+fn run(alloc: Global, bytes: &[u8]) -> Result<Told, Fail> {
+    let src = MemSource::new(
+        bytes_of(alloc, bytes)?,
+        Items::new(alloc),
+        Items::new(alloc),
+    );
+    call(
+        alloc,
+        &["run", "--one"],
+        src,
+        Items::new(alloc),
+        Items::new(alloc),
+    )
+}
+
+#[test]
+fn a_straight_script_is_performed_and_reported(rt: HostRuntime) -> Result<(), Fail> {
+    let told = run(rt.alloc(), SCRIPT.as_bytes())?;
+    assert_eq!(rt; told.status, 0);
+    assert_eq!(rt; told.out.kept(), REPORT.as_bytes());
+    let wanted = [
+        Event::Enter(0),
+        Event::Enter(0),
+        Event::Enter(0),
+        Event::Hop(0),
+        Event::Seen(0, 1),
+        Event::Hop(0),
+        Event::Seen(0, 2),
+        Event::Hop(0),
+        Event::Seen(0, 3),
+    ];
+    assert_eq!(rt; told.books.list.len(), 9);
+    for book in told.books.list.as_slice() {
+        if let Book::Run(run) = book {
+            assert_eq!(rt; run.journal.as_slice(), wanted.as_slice());
+            assert_eq!(rt; run.taken.len(), 1);
+        }
+    }
+    Ok(())
+}
+
+#[test]
+fn keys_stand_in_any_order(rt: HostRuntime) -> Result<(), Fail> {
+    let told = run(rt.alloc(), TURNED.as_bytes())?;
+    assert_eq!(rt; told.status, 0);
+    assert_eq!(rt; told.out.kept(), REPORT.as_bytes());
+    Ok(())
+}
+
+#[test]
+fn what_is_no_script_is_refused(rt: HostRuntime) -> Result<(), Fail> {
+    let texts: [&[u8]; 6] = [
+        b"{}",
+        b"",
+        b"[1",
+        b"\xff\xfe",
+        b"{\"rfnoc\":1,\"commands\":[]}",
+        b"null",
+    ];
+    for text in texts {
+        let told = run(rt.alloc(), text)?;
+        assert_eq!(rt; told.status, 6);
+        assert_eq!(rt; told.out.kept(), b"fault NotBuilt\n".as_slice());
+        assert_eq!(rt; told.books.list.len(), 0);
+    }
+    Ok(())
+}
+
+#[test]
+fn a_script_has_at_most_a_mebibyte(rt: HostRuntime) -> Result<(), Fail> {
+    let mut text = vec![in rt.alloc(); b' '; 1_048_576 - SCRIPT.len()]?;
+    text.extend_from_slice(SCRIPT.as_bytes())?;
+    assert_eq!(rt; run(rt.alloc(), text.as_slice())?.status, 0);
+    text.push(b' ')?;
+    assert_eq!(rt; run(rt.alloc(), text.as_slice())?.status, 6);
+    Ok(())
+}
+
+#[test]
+fn other_words_are_a_usage_fault(rt: HostRuntime) -> Result<(), Fail> {
+    let rows: [&[&str]; 6] = [
+        &[],
+        &["run"],
+        &["run", "--two"],
+        &["--one", "run"],
+        &["run", "--one", ""],
+        &["show"],
+    ];
+    for words in rows {
+        let src = MemSource::new(
+            bytes_of(rt.alloc(), SCRIPT.as_bytes())?,
+            Items::new(rt.alloc()),
+            Items::new(rt.alloc()),
+        );
+        let told = call(
+            rt.alloc(),
+            words,
+            src,
+            Items::new(rt.alloc()),
+            Items::new(rt.alloc()),
+        )?;
+        assert_eq!(rt; told.status, 2);
+        assert_eq!(rt; told.out.kept().len(), 0);
+    }
+    Ok(())
+}
+
+#[test]
+fn a_failing_read_is_told(rt: HostRuntime) -> Result<(), Fail> {
+    for fail in 0..12 {
+        let cuts = counts(rt.alloc(), &[64; 16])?;
+        let fails = counts(rt.alloc(), &[fail])?;
+        let src = MemSource::new(bytes_of(rt.alloc(), SCRIPT.as_bytes())?, cuts, fails);
+        let told = call(
+            rt.alloc(),
+            &["run", "--one"],
+            src,
+            Items::new(rt.alloc()),
+            Items::new(rt.alloc()),
+        )?;
+        let reached = fail <= (SCRIPT.len() as u64 + 63) / 64;
+        assert_eq!(rt; told.status, if reached { 3 } else { 0 }, "read {fail}");
+        assert_eq!(rt; told.out.kept().is_empty(), reached);
+    }
+    Ok(())
+}
+
+#[test]
+fn reads_of_one_byte_change_nothing(rt: HostRuntime) -> Result<(), Fail> {
+    let cuts = counts(rt.alloc(), &[1; 1024])?;
+    let src = MemSource::new(
+        bytes_of(rt.alloc(), SCRIPT.as_bytes())?,
+        cuts,
+        Items::new(rt.alloc()),
+    );
+    let told = call(
+        rt.alloc(),
+        &["run", "--one"],
+        src,
+        Items::new(rt.alloc()),
+        Items::new(rt.alloc()),
+    )?;
+    assert_eq!(rt; told.status, 0);
+    assert_eq!(rt; told.out.kept(), REPORT.as_bytes());
+    Ok(())
+}
+
+#[test]
+fn a_failing_write_leaves_a_prefix_of_the_report(rt: HostRuntime) -> Result<(), Fail> {
+    for fail in 0usize..64 {
+        let src = MemSource::new(
+            bytes_of(rt.alloc(), SCRIPT.as_bytes())?,
+            Items::new(rt.alloc()),
+            Items::new(rt.alloc()),
+        );
+        let fails = counts(rt.alloc(), &[fail as u64])?;
+        let told = call(
+            rt.alloc(),
+            &["run", "--one"],
+            src,
+            counts(rt.alloc(), &[5; 64])?,
+            fails,
+        )?;
+        let written = (fail * 5).min(REPORT.len());
+        assert_eq!(rt;
+            told.status,
+            if written < REPORT.len() { 4 } else { 0 },
+            "write {fail}"
+        );
+        assert_eq!(rt; told.out.kept(), &REPORT.as_bytes()[..written]);
+    }
+    Ok(())
+}
+
+/// The script with these numbers in it.
+fn script_of(
+    alloc: Global,
+    from: &str,
+    to: &str,
+    packets: &str,
+    rate: &str,
+    item: &str,
+    spp: &str,
+) -> Result<String, AllocError> {
+    let mut text = String::new(alloc);
+    let pieces = [
+        r#"{"rfnoc":1,"commands":[{"do":"net","nodes":[{"kind":"host","epid":"#,
+        from,
+        r#"},{"kind":"host","epid":"#,
+        to,
+        r#"}],"links":[[0,0,1,0]]},{"do":"block","kind":"tx","out":["#,
+        from,
+        r#"],"packets":"#,
+        packets,
+        r#"},{"do":"block","kind":"rx","in":["#,
+        to,
+        r#"]},{"do":"connect","from":[0,0],"to":[1,0]},{"do":"set","block":0,"side":"out","port":0,"property":"rate","value":"#,
+        rate,
+        r#"},{"do":"set","block":0,"side":"out","port":0,"property":"item","value":"#,
+        item,
+        r#"},{"do":"set","block":0,"side":"out","port":0,"property":"spp","value":"#,
+        spp,
+        r#"},{"do":"commit"},{"do":"run"}]}"#,
+    ];
+    for piece in pieces {
+        text.push_str(piece)?;
+    }
+    Ok(text)
+}
+
+#[test]
+fn each_number_has_its_range(rt: HostRuntime) -> Result<(), Fail> {
+    let rows = [
+        ("1", "2", "3", "1", "4", "1", true),
+        (
+            "65535",
+            "1",
+            "16384",
+            "18446744073709551615",
+            "8",
+            "1022",
+            true,
+        ),
+        ("0", "2", "3", "1", "4", "1", false),
+        ("65536", "2", "3", "1", "4", "1", false),
+        ("2", "2", "3", "1", "4", "1", false),
+        ("1", "2", "0", "1", "4", "1", false),
+        ("1", "2", "16385", "1", "4", "1", false),
+        ("1", "2", "3", "0", "4", "1", false),
+        ("1", "2", "3", "18446744073709551616", "4", "1", false),
+        ("1", "2", "3", "1", "5", "1", false),
+        ("1", "2", "3", "1", "12", "1", false),
+        ("1", "2", "3", "1", "4", "0", false),
+        ("1", "2", "3", "1", "4", "1023", false),
+        ("1", "2", "3.0", "1", "4", "1", false),
+        ("1", "2", "-3", "1", "4", "1", false),
+    ];
+    for (from, to, packets, rate, item, spp, fits) in rows {
+        let text = script_of(rt.alloc(), from, to, packets, rate, item, spp)?;
+        let read = read_form(rt.alloc(), text.as_bytes())?;
+        assert_eq!(rt;
+            read.is_some(),
+            fits,
+            "{from} {to} {packets} {rate} {item} {spp}"
+        );
+    }
+    Ok(())
+}
+
+#[test]
+fn a_script_is_read_into_its_numbers(rt: HostRuntime) -> Result<(), Fail> {
+    let wanted = Straight {
+        from: Epid(1),
+        to: Epid(2),
+        packets: 3,
+        rate: 1_000_000,
+        item: 4,
+        spp: 2,
+    };
+    assert_eq!(rt; read_form(rt.alloc(), SCRIPT.as_bytes())?, Some(wanted));
+    Ok(())
+}
+
+#[test]
+fn a_run_moves_every_packet_into_its_book(rt: HostRuntime) -> Result<(), Fail> {
+    let text = script_of(rt.alloc(), "9", "7", "100", "5", "8", "3")?;
+    let told = run(rt.alloc(), text.as_bytes())?;
+    assert_eq!(rt; told.status, 0);
+    for book in told.books.list.as_slice() {
+        if let Book::Run(run) = book {
+            for taken in run.taken.as_slice() {
+                assert_eq!(rt; taken.len(), 100);
+            }
+            for line in run.lines.as_slice() {
+                assert_eq!(rt; line.samples, 300);
+                assert_eq!(rt; line.last, Some(299));
+            }
+        }
+    }
+    Ok(())
+}
