@@ -1,6 +1,6 @@
 -- At most one refusal is the first.
-use Rattle.std.proofs.Common.{◌≡◌, ◌≢◌, ℕ, ◌+◌, ◌<◌, ◌≤◌, List, length, Some, ◌⊎◌, inl, inr, sym, ◌∙◌, refl, ap, subst, arith}
-use Rattle.std.proofs.lemmas.Bool.{cases_lt, cases_eq}
+use Rattle.std.proofs.Common.{◌≡◌, ◌≢◌, ℕ, ◌<◌, ◌≤◌, length, Some, inl, inr, sym, ◌∙◌, refl, ap, subst, arith}
+use Rattle.std.proofs.lemmas.Bool.{cases_lt}
 use Rattle.chdr_words.specs.declared.epid.Epid.{Epid}
 use Rattle.net_topology.specs.declared.check.PlanFault.{PlanFault}
 use Rattle.net_topology.specs.declared.check.PlanFault.TheVariants.{TooManyNodes, DuplicateEpid, BadPort, PortTwice, Cycle, Apart, BadLinkRoom, Memory}

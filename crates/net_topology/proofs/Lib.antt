@@ -10,3 +10,4 @@ pub mod LinkLemmas
 pub mod LawLemmas
 pub mod PortLemmas
 pub mod FaultLemmas
+pub mod RouteLemmas

@@ -1,11 +1,12 @@
 -- Where tables lead packets.
-use Rattle.std.specs.Prelude.{◌≡◌, ◌==◌, ℕ, Bool, true, false, List, [], ◌∷◌, Option, None, Some, slice_get, if◌then◌else◌}
+use Rattle.std.specs.Prelude.{◌≡◌, ◌==◌, ◌<◌, ℕ, length, Bool, true, false, List, [], ◌∷◌, Option, None, Some, slice_get, if◌then◌else◌}
 use Rattle.std.specs.Option.{option_and_then, option_map_or}
 use Rattle.chdr_words.specs.declared.epid.Epid.{Epid}
 use Rattle.net_topology.specs.declared.plan.NodePlan.{NodePlan}
 use Rattle.net_topology.specs.declared.plan.NodePlan.TheVariants.{Crossbar, Adapter, Host, Endpoint}
 use Rattle.net_topology.specs.declared.plan.Plan.{Plan}
-use Rattle.net_topology.specs.Links.{end_of, end_port, link_at}
+use Rattle.net_topology.specs.Links.{end_of, start_port, end_port, link_at}
+use Rattle.net_topology.specs.Parts.{way_of}
 use Rattle.net_topology.specs.Tree.{node_with}
 
 -- the node passes packets on by a table
@@ -47,3 +48,8 @@ pub record Leads (plan : Plan) (exits : Exits) (a b : Epid) : Type 0 where
   pub to : node_with plan.nodes b ≡ Some target
   pub out : link_at plan.links source 0 ≡ Some first
   pub way : LeadsOver plan exits b first links target
+
+-- each table has, for each EPID of another node, the port of the first link of the way there
+abbrev pub IsRouted : Plan → Exits → Type 0
+IsRouted plan exits =
+    (x z d : ℕ) (ds : List ℕ) (epid : Epid) → x < length plan.nodes → node_with plan.nodes epid ≡ Some z → way_of plan.links x z ≡ d ∷ ds → exits x epid ≡ Some (start_port plan.links d)

@@ -3,7 +3,9 @@ ghost use Rattle.std.specs.Prelude.{◌≡◌, ◌≢◌, ◌*◌, ◌<◌, ℕ,
 ghost use Rattle.net_topology.specs.Links.{back_of, start_of, end_of, start_port, end_port, IsWay, NeverTurns, link_at};
 ghost use Rattle.net_topology.specs.Parts.{way_of};
 ghost use Rattle.net_topology.specs.Ranks.{rank_of, MayFollow};
-ghost use Rattle.net_topology.specs.Tree.{IsTree, IsFault};
+ghost use Rattle.net_topology.specs.Tree.{IsTree, IsFault, node_with};
+ghost use Rattle.net_topology.specs.Leads.{Exits, IsRouted, Leads};
+ghost use Rattle.chdr_words.specs.declared.epid.Epid.{Epid};
 ghost use Rattle.net_topology.specs.declared.check.PlanFault.{PlanFault};
 
 use crate::Plan;
@@ -71,6 +73,17 @@ pub fn refusals_exclude_each_other(plan: &Plan)
         → fault ≡ PlanFault.Memory }
     ensures one { (f g : PlanFault) → f ≢ PlanFault.Memory → g ≢ PlanFault.Memory
         → IsFault plan.now f → IsFault plan.now g → f ≡ g }
+{
+    let _ = plan;
+}
+
+/// Tables that have, at each node, the next link of each way lead from every EPID to every EPID of
+/// another node.
+pub fn routed_tables_lead(plan: &Plan)
+    requires { IsTree plan.now }
+    ensures { (exits : Exits) (a b : Epid) (x z : ℕ) → IsRouted plan.now exits
+        → node_with plan.now.nodes a ≡ Some x → node_with plan.now.nodes b ≡ Some z → x ≢ z
+        → Leads plan.now exits a b }
 {
     let _ = plan;
 }
