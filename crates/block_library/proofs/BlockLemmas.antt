@@ -1,14 +1,10 @@
 -- What a block gives grows packet by packet, and what it keeps says how.
-use Rattle.std.proofs.Common.{◌≡◌, ◌+◌, ◌%◌, ◌<◌, ◌≤◌, ◌++◌, ◌∙◌, [], ◌∷◌, ℕ, List, Bool, true, false, cond, length, sym, ap, refl, append_assoc, append-nil, arith, map, add-zero, nat_eq, ◌*◌, ◌/◌}
+use Rattle.std.proofs.Common.{◌≡◌, ◌+◌, ◌%◌, ◌++◌, ◌∙◌, [], ◌∷◌, ℕ, List, true, false, cond, sym, ap, refl, append_assoc, arith, add-zero, nat_eq, ◌*◌, ◌/◌}
 use Rattle.std.proofs.Math.Nat.{mod-add-div, add-mul-mod_self_left}
 use Rattle.std.specs.List.{flat_map, range_with_len, sum_by}
-use Rattle.std.proofs.lemmas.List.Concat.{flat_map-append}
-use Rattle.std.proofs.lemmas.List.Sums.{sum_by-append, sum_by-cons}
+use Rattle.std.proofs.lemmas.List.Sums.{sum_by-cons}
 use Rattle.chdr_packets.specs.declared.packet.Packet.{Packet}
-use Rattle.block_library.specs.declared.kind.BlockKind.{BlockKind}
-use Rattle.block_library.specs.declared.kind.BlockKind.TheVariants.{Tx, Rx, Fifo, Split, Keep, Repeat, Replay, Switch, Sink}
-use Rattle.block_library.specs.Blocks.{Lists, inputs, samples_in, sample_at, payload_in, kept_samples, kept_packets, resampled, repeated_packet, closes, groups, open_group, replayed_group, block_of, joined, alone}
-use Rattle.block_library.specs.Memory.{Kept, kept_of, gives, after_feed, total, counted}
+use Rattle.block_library.specs.Blocks.{samples_in, sample_at, payload_in, kept_samples, kept_packets, resampled, closes, groups, open_group}
 
 -- keep: the packets after others go on with the number of their first sample
 pub kept_packets-append : (n item first : ℕ) (ps qs : List Packet) →

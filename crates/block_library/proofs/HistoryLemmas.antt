@@ -1,5 +1,5 @@
 -- A block stands for its history: one packet more gives what the definition has more.
-use Rattle.std.proofs.Common.{◌≡◌, ◌+◌, ◌%◌, ◌-◌, ◌^◌, ◌<◌, ◌≤◌, ◌++◌, ◌∙◌, [], ◌∷◌, ℕ, zero, suc, min, List, true, false, cond, length, sym, ap, refl, append-nil, arith, length-append, zero-add, add-zero, nat_eq}
+use Rattle.std.proofs.Common.{◌≡◌, ◌+◌, ◌%◌, ◌<◌, ◌++◌, ◌∙◌, [], ◌∷◌, ℕ, zero, suc, List, true, false, cond, sym, ap, refl, append-nil, arith, length-append, zero-add, add-zero, nat_eq}
 use Rattle.std.specs.List.{flat_map, sum_by}
 use Rattle.std.proofs.lemmas.List.Concat.{flat_map-append}
 use Rattle.std.proofs.lemmas.List.Sums.{sum_by-append, sum_by-cons}

@@ -37,9 +37,15 @@ impl Model for Block {
 
     ghost Value = { Seen };
 
-    ghost view = { λ block. record { kept = kept block.kind block.item block.phase block.group.items block.fed block.given; prepared = option_map (λ made. lists made.first.items made.second.items) block.prepared } };
+    ghost view = { λ block. record {
+      kept = kept block.kind block.item block.phase
+          block.group.items block.fed block.given;
+      prepared = option_map (λ made. lists
+          made.first.items made.second.items) block.prepared;
+    } };
 
-    ghost invariant = { λ block. FitsKind block.kind × ((block.item ≡ 4) ⊎ (block.item ≡ 8)) × (block.phase < 1024) × (vec_len block.group < 64) × (64 ≤ vec_capacity block.group) };
+    ghost invariant = { λ block. FitsKind block.kind × ((block.item ≡ 4) ⊎ (block.item ≡ 8)) ×
+        (block.phase < 1024) × (vec_len block.group < 64) × (64 ≤ vec_capacity block.group) };
 }
 
 impl Block {
@@ -48,7 +54,10 @@ impl Block {
     pub fn new(alloc: Global, kind: BlockKind, item: u32) -> Result<Block, Memory>
         requires kind { FitsKind kind }
         requires item { (item ≡ 4) ⊎ (item ≡ 8) }
-        ensures { IfOk result (λ block. block ≡ record { kept = kept_of kind item (lists [] []); prepared = None }) }
+        ensures { IfOk result (λ block. block ≡ record {
+          kept = kept_of kind item (lists [] []);
+          prepared = None;
+        }) }
     {
         Ok(Block {
             kind,
@@ -101,7 +110,8 @@ impl Block {
 
     #[tactic(auto, unfolding(crate::specs::Memory::made))]
     fn make(&self, packet: &Packet) -> Result<Made, Memory>
-        ensures { IfOk result (λ it. lists it.first.items it.second.items ≡ made self.now.kept packet.now) }
+        ensures { IfOk result (λ it. lists it.first.items it.second.items ≡ made self.now.kept
+            packet.now) }
     {
         let alloc = *self.group.allocator();
         let none = Vec::new(alloc);
@@ -151,8 +161,13 @@ impl Block {
         requires prepared { self.old.prepared ≡ Some (made self.old.kept packet) }
         ensures first { result.first ≡ (gives self.old.kept port packet).first }
         ensures second { result.second ≡ (gives self.old.kept port packet).second }
-        ensures next { self.new ≡ record { kept = after_feed self.old.kept port packet; prepared = None } }
-        ensures history { (fed : Lists) → StandsFor self.old.kept fed → GoesOn self.old.kept self.new.kept fed port packet (lists result.first result.second) }
+        ensures next { self.new ≡ record {
+          kept = after_feed self.old.kept port packet;
+          prepared =
+              None;
+        } }
+        ensures history { (fed : Lists) → StandsFor self.old.kept fed → GoesOn self.old.kept
+            self.new.kept fed port packet (lists result.first result.second) }
     {
         let Some(
             Made {
@@ -187,7 +202,14 @@ impl Block {
         requires room { vec_len passed < vec_capacity passed }
         requires first { first.items ≡ (made self.old.kept packet).first }
         ensures first { result.items ≡ (gives self.old.kept port packet).first }
-        ensures next { self.new ≡ record self.old { kept = record self.old.kept { phase = next_phase self.old.kept.kind self.old.kept.item self.old.kept.phase packet; group = next_group self.old.kept.kind self.old.kept.group packet } } }
+        ensures next { self.new ≡ record self.old {
+          kept = record self.old.kept {
+            phase =
+                next_phase self.old.kept.kind self.old.kept.item self.old.kept.phase packet;
+            group =
+                next_group self.old.kept.kind self.old.kept.group packet;
+          };
+        } }
     {
         match self.kind {
             BlockKind::Tx | BlockKind::Rx | BlockKind::Repeat(_) | BlockKind::Sink => first,
@@ -240,7 +262,8 @@ impl Block {
 
     /// The register at an address, 4 bytes each; none where there is no such register.
     pub fn register(&self, addr: u32) -> Option<u32>
-        ensures { result ≡ (if addr % 4 == 0 then slice_get (block_registers self.now.kept) (addr / 4) else None) }
+        ensures { result ≡ (if addr % 4 == 0 then slice_get (block_registers self.now.kept) (addr
+            / 4) else None) }
     {
         if addr % 4 == 0 {
             self.registers().get((addr / 4) as usize).copied()

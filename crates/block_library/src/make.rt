@@ -70,7 +70,8 @@ pub fn kept(
     requires n { 1 ≤ n }
     requires item { (item ≡ 4) ⊎ (item ≡ 8) }
     requires phase { phase < 1024 }
-    ensures { IfOk result (λ made. made.items ≡ resampled packet.now (kept_samples n item phase (payload_in packet.now.body) (samples_in item packet.now))) }
+    ensures { IfOk result (λ made. made.items ≡ resampled packet.now (kept_samples n item phase
+        (payload_in packet.now.body) (samples_in item packet.now))) }
 {
     let (time, samples) = samples_of(packet);
     let bytes = kept_bytes(alloc, n, item, phase, samples)?;
@@ -103,7 +104,8 @@ fn kept_bytes(
     requires n { 1 ≤ n }
     requires item { (item ≡ 4) ⊎ (item ≡ 8) }
     requires phase { phase < 1024 }
-    ensures { IfOk result (λ bytes. bytes.items ≡ kept_samples n item phase samples.now (length samples.now / item)) }
+    ensures { IfOk result (λ bytes. bytes.items ≡ kept_samples n item phase samples.now (length
+        samples.now / item)) }
 {
     let mut bytes = Vec::with_capacity(alloc, samples.len() / n as usize)?;
     for i in 0..samples.len() / item as usize {
@@ -124,7 +126,8 @@ fn push_if(
 ) -> Result<(), Memory>
     requires item { (item ≡ 4) ⊎ (item ≡ 8) }
     requires within { index < length samples.now / item }
-    ensures { IfOk result (λ _. bytes.new.items ≡ bytes.old.items ++ (if keeps then sample_at item samples.now index else [])) }
+    ensures { IfOk result (λ _. bytes.new.items ≡ bytes.old.items ++ (if keeps then sample_at item
+        samples.now index else [])) }
 {
     if keeps {
         let start = item as usize * index;
@@ -203,7 +206,8 @@ fn repeated_bytes(
     requires within { k < n }
     requires item { (item ≡ 4) ⊎ (item ≡ 8) }
     requires place { IsAt n place.old (k * (length samples.now / item)) }
-    ensures bytes { IfOk result (λ bytes. let count = length samples.now / item in bytes.items ≡ repeated_samples n item samples.now (k * count) count) }
+    ensures bytes { IfOk result (λ bytes. let count = length samples.now / item in bytes.items ≡
+        repeated_samples n item samples.now (k * count) count) }
     ensures place { OnOk result (IsAt n place.new ((k + 1) * (length samples.now / item))) }
 {
     let count = samples.len() / item as usize;

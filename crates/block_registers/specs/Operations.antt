@@ -1,6 +1,6 @@
 -- Control operations on registers; docs/registers.md has their table.
 use Rattle.std.specs.Prelude.{◌+◌, ◌*◌, ◌&&◌, ℕ, Bool, true, false, List, [], ◌∷◌, Option, Some, None, if◌then◌else◌, nat_lt, length, map, slice_index}
-use Rattle.std.specs.List.{range_with_len, list_all}
+use Rattle.std.specs.List.{range_with_len, list_all, fold}
 use Rattle.chdr_words.specs.declared.epid.Epid.{Epid}
 use Rattle.chdr_words.specs.declared.control.Control.{Control}
 use Rattle.chdr_words.specs.declared.control.CtrlOp.{CtrlOp}
@@ -104,6 +104,10 @@ accepted place request =
 -- the registers of a bank after a request
 unfoldable pub registers_after : Registers → Control → Registers
 registers_after bank request = record bank { words = written bank.masks bank.words (accepted (Bank bank) request) }
+
+-- the registers after requests in turn
+abbrev pub after_all : Registers → List Control → Registers
+after_all bank requests = fold registers_after bank requests
 
 abbrev pub status_of : Option (List ℕ) → CtrlStatus
 status_of None = CmdErr

@@ -8,6 +8,9 @@ pub record Registers : Type 0 where
   pub words : List ℕ
   pub masks : List ℕ
 
+abbrev pub registers : List ℕ → List ℕ → Registers
+registers words masks = record { words = words; masks = masks }
+
 -- register i stands at the address 4i
 abbrev pub is_register : List ℕ → ℕ → Bool
 is_register words addr = (addr % 4 == 0) && nat_lt (addr / 4) (length words)
@@ -34,6 +37,9 @@ pub record Change : Type 0 where
   pub addr : ℕ
   pub value : ℕ
   pub enables : ℕ
+
+abbrev pub change : ℕ → ℕ → ℕ → Change
+change addr value enables = record { addr = addr; value = value; enables = enables }
 
 -- the word at the address takes the value's bits where its mask and the enabled bytes both have a 1
 unfoldable pub written_one : List ℕ → List ℕ → Change → List ℕ

@@ -1,5 +1,5 @@
 ghost use Rattle.std.specs.Prelude.{◌≡◌, ℕ, List, length};
-ghost use Rattle.block_registers.specs.Registers.{is_register, register, written_one};
+ghost use Rattle.block_registers.specs.Registers.{is_register, register, written_one, change};
 
 /// Registers of 32 bits that a device offers, each with a mask of the bits that can be written.
 ///
@@ -21,7 +21,8 @@ pub trait RegisterBank: Drop {
     /// Writes the bits that the mask and the enabled bytes allow; false where no register stands there.
     fn write(&mut self, addr: u32, value: u32, enables: u8) -> bool
         ensures found { result ≡ is_register (words self.old) addr }
-        ensures words { words self.new ≡ written_one (masks self.old) (words self.old) (record { addr = addr; value = value; enables = enables }) }
+        ensures words { words self.new ≡
+            written_one (masks self.old) (words self.old) (change addr value enables) }
         ensures masks { masks self.new ≡ masks self.old };
 }
 

@@ -1,6 +1,6 @@
 ghost use Rattle.std.specs.Prelude.{◌≡◌, ◌<◌, ℕ, List, Option, Some, None, IfOk, replicate, slice_set, option_map, vec_len, is_some};
 ghost use Rattle.chdr_words.specs.Control.{FitsControl};
-ghost use Rattle.block_registers.specs.Registers.{Registers};
+ghost use Rattle.block_registers.specs.Registers.{Registers, registers};
 ghost use Rattle.block_registers.specs.Operations.{answer};
 ghost use Rattle.block_registers.specs.Slots.{registers_in, registers_of, bank_at, place_of, slots_after};
 
@@ -38,7 +38,8 @@ impl Banks {
     /// Sixteen empty slots.
     #[tactic(auto, unfolding(crate::specs::Slots::registers_in))]
     pub fn new(alloc: Global) -> Result<Banks, Memory>
-        ensures { IfOk result (λ banks. ⟦<Banks as RegisterSlots>⟧.slots banks ≡ replicate 16 None) }
+        ensures { IfOk result (λ banks. ⟦<Banks as RegisterSlots>⟧.slots banks ≡ replicate 16
+            None) }
     {
         let mut slots = Vec::with_capacity(alloc, 16)?;
         for _count in 0..16u8 {
@@ -50,23 +51,29 @@ impl Banks {
     /// Puts a bank into a slot, and gives the one that was there.
     pub fn load(&mut self, port: u16, bank: Bank) -> Option<Bank>
         requires { port < 16 }
-        ensures given { option_map (λ given. record { words = words given; masks = masks given }) result ≡ bank_at (⟦<Banks as RegisterSlots>⟧.slots self.old) port }
-        ensures slots { ⟦<Banks as RegisterSlots>⟧.slots self.new ≡ slice_set (⟦<Banks as RegisterSlots>⟧.slots self.old) port (Some (record { words = words bank; masks = masks bank })) }
+        ensures given { option_map (λ given. registers (words given) (masks given)) result ≡
+            bank_at (⟦<Banks as RegisterSlots>⟧.slots self.old) port }
+        ensures slots { ⟦<Banks as RegisterSlots>⟧.slots self.new ≡
+            slice_set (⟦<Banks as RegisterSlots>⟧.slots self.old) port
+            (Some (registers (words bank) (masks bank))) }
     {
         put_in(&mut self.slots, port as usize, bank)
     }
 
     /// Takes the bank out of a slot; none where the slot is empty or isn't there.
     pub fn unload(&mut self, port: u16) -> Option<Bank>
-        ensures given { option_map (λ given. record { words = words given; masks = masks given }) result ≡ bank_at (⟦<Banks as RegisterSlots>⟧.slots self.old) port }
-        ensures slots { ⟦<Banks as RegisterSlots>⟧.slots self.new ≡ slice_set (⟦<Banks as RegisterSlots>⟧.slots self.old) port None }
+        ensures given { option_map (λ given. registers (words given) (masks given)) result ≡
+            bank_at (⟦<Banks as RegisterSlots>⟧.slots self.old) port }
+        ensures slots { ⟦<Banks as RegisterSlots>⟧.slots self.new ≡
+            slice_set (⟦<Banks as RegisterSlots>⟧.slots self.old) port None }
     {
         take_from(&mut self.slots, port as usize)
     }
 }
 
 impl RegisterSlots for Banks {
-    ghost slots = { λ banks. registers_in (λ bank. (RegisterBank-box bank).words bank.value) (λ bank. (RegisterBank-box bank).masks bank.value) banks.slots.items };
+    ghost slots = { λ banks. registers_in (λ bank. (RegisterBank-box bank).words bank.value) (λ
+        bank. (RegisterBank-box bank).masks bank.value) banks.slots.items };
 
     fn operate(&mut self, me: Epid, slot: Option<u16>, request: &Control) -> Control {
         operate_in(&mut self.slots, me, slot, request)

@@ -25,7 +25,8 @@ fn bit(bits: u8, place: u32) -> u32
 #[tactic(auto, unfolding(crate::specs::Registers::merged))]
 pub fn merged_of(word: u32, value: u32, gate: u32) -> u32
     ensures value { result ≡ merged word value gate }
-    ensures bits { (k : ℕ) → k < 32 → bit_at result k ≡ (if bit_at gate k == 1 then bit_at value k else bit_at word k) }
+    ensures bits { (k : ℕ) → k < 32 → bit_at result k ≡ (if bit_at gate k == 1 then bit_at value k
+        else bit_at word k) }
 {
     (value & gate) | (word & !gate)
 }

@@ -6,6 +6,7 @@ mod bank;
 mod banks;
 mod bits;
 mod fixed;
+mod law;
 mod operation;
 mod plain;
 mod slots;
@@ -13,6 +14,7 @@ mod slots;
 pub use bank::{Bank, RegisterBank};
 pub use banks::{Banks, RegisterSlots};
 pub use fixed::operate_fixed;
+pub use law::requests_law;
 pub use operation::operate_on;
 pub use plain::PlainBank;
 

@@ -21,7 +21,8 @@ impl Model for PlainBank {
 
     ghost view = { λ bank. record { words = bank.words.items; masks = bank.masks.items } };
 
-    ghost invariant = { λ bank. (vec_len bank.words ≡ vec_len bank.masks) × (vec_len bank.words < 2 ^ 32) };
+    ghost invariant = { λ bank. (vec_len bank.words ≡ vec_len bank.masks) × (vec_len bank.words <
+        2 ^ 32) };
 }
 
 impl PlainBank {

@@ -17,8 +17,10 @@ pub fn operate_in<B: RegisterBank>(
     request: &Control,
 ) -> Control
     requires { FitsControl request.now }
-    ensures answer { result ≡ answer me (place_of (registers_in B.words B.masks slots.old) slot) request.now }
-    ensures slots { registers_in B.words B.masks slots.new ≡ slots_after (registers_in B.words B.masks slots.old) slot request.now }
+    ensures answer { result ≡ answer me (place_of (registers_in B.words B.masks slots.old) slot)
+        request.now }
+    ensures slots { registers_in B.words B.masks slots.new ≡ slots_after (registers_in B.words
+        B.masks slots.old) slot request.now }
 {
     let outcome = match slot {
         Some(port) => operate_at(slots, port as usize, request),
@@ -35,8 +37,11 @@ fn operate_at<B: RegisterBank>(
     request: &Control,
 ) -> Option<Words15>
     requires { FitsControl request.now }
-    ensures answer { result ≡ outcome (place_of_bank (bank_at (registers_in B.words B.masks slots.old) port)) request.now }
-    ensures slots { registers_in B.words B.masks slots.new ≡ slice_set (registers_in B.words B.masks slots.old) port (option_map (λ bank. registers_after bank request.now) (bank_at (registers_in B.words B.masks slots.old) port)) }
+    ensures answer { result ≡ outcome (place_of_bank (bank_at (registers_in B.words B.masks
+        slots.old) port)) request.now }
+    ensures slots { registers_in B.words B.masks slots.new ≡ slice_set (registers_in B.words
+        B.masks slots.old) port (option_map (λ bank. registers_after bank request.now) (bank_at
+        (registers_in B.words B.masks slots.old) port)) }
 {
     if port >= slots.len() {
         return None;
@@ -47,8 +52,10 @@ fn operate_at<B: RegisterBank>(
 #[tactic(auto, unfolding(crate::specs::Operations::registers_after, crate::specs::Operations::outcome, crate::specs::Operations::accepts))]
 fn operate_slot<B: RegisterBank>(slot: &mut Option<B>, request: &Control) -> Option<Words15>
     requires { FitsControl request.now }
-    ensures answer { result ≡ outcome (place_of_bank (option_map (registers_of B.words B.masks) slot.old)) request.now }
-    ensures slot { option_map (registers_of B.words B.masks) slot.new ≡ option_map (λ bank. registers_after bank request.now) (option_map (registers_of B.words B.masks) slot.old) }
+    ensures answer { result ≡ outcome (place_of_bank (option_map (registers_of B.words B.masks)
+        slot.old)) request.now }
+    ensures slot { option_map (registers_of B.words B.masks) slot.new ≡ option_map (λ bank.
+        registers_after bank request.now) (option_map (registers_of B.words B.masks) slot.old) }
 {
     match slot {
         Some(bank) => operate_on(bank, request),
@@ -60,8 +67,10 @@ fn operate_slot<B: RegisterBank>(slot: &mut Option<B>, request: &Control) -> Opt
 #[tactic(auto, using(crate::proofs::SlotLemmas::slot_lemmas))]
 pub fn put_in<B: RegisterBank>(slots: &mut [Option<B>], port: usize, bank: B) -> Option<B>
     requires { port < length slots.old }
-    ensures given { option_map (registers_of B.words B.masks) result ≡ bank_at (registers_in B.words B.masks slots.old) port }
-    ensures slots { registers_in B.words B.masks slots.new ≡ slice_set (registers_in B.words B.masks slots.old) port (Some (registers_of B.words B.masks bank)) }
+    ensures given { option_map (registers_of B.words B.masks) result ≡ bank_at (registers_in
+        B.words B.masks slots.old) port }
+    ensures slots { registers_in B.words B.masks slots.new ≡ slice_set (registers_in B.words
+        B.masks slots.old) port (Some (registers_of B.words B.masks bank)) }
 {
     slots[port].replace(bank)
 }
@@ -69,8 +78,10 @@ pub fn put_in<B: RegisterBank>(slots: &mut [Option<B>], port: usize, bank: B) ->
 /// Takes the bank out of a slot; none where the slot is empty or isn't there.
 #[tactic(auto, using(crate::proofs::SlotLemmas::slot_lemmas))]
 pub fn take_from<B: RegisterBank>(slots: &mut [Option<B>], port: usize) -> Option<B>
-    ensures given { option_map (registers_of B.words B.masks) result ≡ bank_at (registers_in B.words B.masks slots.old) port }
-    ensures slots { registers_in B.words B.masks slots.new ≡ slice_set (registers_in B.words B.masks slots.old) port None }
+    ensures given { option_map (registers_of B.words B.masks) result ≡ bank_at (registers_in
+        B.words B.masks slots.old) port }
+    ensures slots { registers_in B.words B.masks slots.new ≡ slice_set (registers_in B.words
+        B.masks slots.old) port None }
 {
     if port >= slots.len() {
         return None;

@@ -1,7 +1,7 @@
 use Rattle.std.proofs.Common.{arith, ap, rules, subst}
 use Rattle.std.proofs.lemmas.Grind.{common_steps}
 use Rattle.block_library.specs.Blocks.{FitsKind}
-use Rattle.block_library.specs.Memory.{Seen, kept, lists, made, gives, after_feed}
+use Rattle.block_library.specs.Memory.{Seen, made, gives, after_feed}
 use Rattle.block_library.proofs.HistoryLemmas.{goes_on, same_lists}
 use Rattle.block_library.proofs.block.Block.feed.Goals as goal
 
