@@ -53,10 +53,13 @@ fn plain(alloc: Global, words: &[u32], masks: &[u32]) -> Result<PlainBank, Fail>
     }
 }
 
-/// Slots with a bank of three words behind port 2, of which the last two can be written.
-fn slots(alloc: Global) -> Result<Banks, Fail> {
-    let bank = plain(alloc, &[10, 11, 12], &[0, u32::MAX, u32::MAX])?;
-    let bank: Bank = Box::new(alloc, bank)?;
+/// Three words, of which the last two can be written.
+fn three(alloc: Global) -> Result<PlainBank, Fail> {
+    plain(alloc, &[10, 11, 12], &[0, u32::MAX, u32::MAX])
+}
+
+/// Slots with a bank behind port 2.
+fn slots(alloc: Global, bank: Bank) -> Result<Banks, Fail> {
     let mut banks = Banks::new(alloc)?;
     banks.load(2, bank);
     Ok(banks)
@@ -86,7 +89,8 @@ fn request(op: CtrlOp, addr: u32, list: &[u32]) -> Control
 fn operated(alloc: Global, request: &Control) -> Result<(Option<Words15>, [u32; 3]), Fail>
     requires { FitsControl request.now }
 {
-    let mut banks = slots(alloc)?;
+    let bank: Bank = Box::new(alloc, three(alloc)?)?;
+    let mut banks = slots(alloc, bank)?;
     let ack = banks.operate(ME, Some(2), request);
     let answer = match ack.status {
         CtrlStatus::Okay => Some(ack.words),
@@ -105,7 +109,8 @@ fn operated(alloc: Global, request: &Control) -> Result<(Option<Words15>, [u32; 
 fn an_acknowledgement_goes_back_to_where_its_request_came_from(
     rt: HostRuntime,
 ) -> Result<(), Fail> {
-    let mut banks = slots(rt.alloc())?;
+    let bank: Bank = Box::new(rt.alloc(), three(rt.alloc())?)?;
+    let mut banks = slots(rt.alloc(), bank)?;
     let ack = banks.operate(ME, Some(2), &request(CtrlOp::Read, 4, &[]));
     let mut want = request(CtrlOp::Read, 4, &[11]);
     want.src = ME;
@@ -189,7 +194,8 @@ fn fixed_words_are_read_and_never_written(rt: HostRuntime) {
 
 #[test]
 fn a_port_without_a_bank_gives_cmderr(rt: HostRuntime) -> Result<(), Fail> {
-    let mut banks = slots(rt.alloc())?;
+    let bank: Bank = Box::new(rt.alloc(), three(rt.alloc())?)?;
+    let mut banks = slots(rt.alloc(), bank)?;
     for slot in [None, Some(0), Some(15), Some(16), Some(1023)] {
         let ack = banks.operate(ME, slot, &request(CtrlOp::Sleep, 0, &[]));
         assert_eq!(rt; ack.status, CtrlStatus::CmdErr);
