@@ -1,4 +1,4 @@
-use crate::{Decoder, FinishFault, StreamFault};
+use crate::{Decoder, FinishFault, Passed, StreamFault};
 use chdr_packets::{Body, PacketFault};
 use std::test::Fail;
 
@@ -16,8 +16,6 @@ fn a_packet_comes_whole_from_any_two_pieces(rt: HostRuntime) -> Result<(), Fail>
         assert_eq!(rt; placed.at, 0);
         assert!(rt; placed.canonical);
         assert!(rt; matches!(placed.packet.body, Body::Samples { .. }));
-        assert!(rt; matches!(decoder.pass(), Ok(None)));
-        assert_eq!(rt; decoder.finish(), Ok(()));
     }
     Ok(())
 }
@@ -34,4 +32,23 @@ fn a_fault_stays(rt: HostRuntime) -> Result<(), Fail> {
     decoder.feed(&DATA)?;
     assert_eq!(rt; decoder.pass(), Err(fault));
     Ok(())
+}
+
+#[test]
+fn a_packet_is_passed(rt: HostRuntime) -> Result<(), Fail> {
+    let mut decoder = Decoder::new(rt.alloc());
+    decoder.feed(&DATA)?;
+    let want = Passed {
+        at: 0,
+        canonical: true,
+    };
+    assert_eq!(rt; decoder.pass(), Ok(Some(want)));
+    Ok(())
+}
+
+#[test]
+fn nothing_is_left_at_the_end(rt: HostRuntime) {
+    let mut decoder = Decoder::new(rt.alloc());
+    assert!(rt; matches!(decoder.next(), Ok(None)));
+    assert_eq!(rt; decoder.finish(), Ok(()));
 }
