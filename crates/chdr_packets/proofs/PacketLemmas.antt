@@ -1,38 +1,22 @@
 -- The packet at the front of bytes: what is read is spelled so, what is spelled so is read, and what follows doesn't matter.
-use Rattle.std.proofs.Common.{eqb, ◌≡◌, ℕ, zero, suc, ◌+◌, ◌-◌, ◌*◌, ◌/◌, ◌<◌, ◌≤◌, ◌⊎◌, inl, inr, Bool, true, false, cond, ltb, List, [], ◌∷◌, ◌++◌, length, get_or, take, drop, Option, None, Some, Result, Ok, Err, refl, sym, ap, subst, ◌∙◌, arith}
+use Rattle.std.proofs.Common.{eqb, ◌≡◌, ℕ, ◌+◌, ◌-◌, ◌<◌, ◌≤◌, Bool, true, false, cond, ltb, List, [], ◌++◌, length, take, drop, Option, None, Some, Result, Ok, Err, refl, sym, ap, subst, ◌∙◌, arith}
 use Rattle.std.specs.Prelude.{IfSome, IfOk, slice_range, ◌&&◌}
 use Rattle.std.specs.List.{list_all}
 use Rattle.std.proofs.lemmas.Bool.{ltb-true, ltb-false, le-ltb}
-use Rattle.std.proofs.lemmas.List.{take-append-drop, length-take, length-append, drop-append-le, take-append-le, length-drop, get_or-drop}
+use Rattle.std.proofs.lemmas.List.{take-append-drop, length-take, length-append, drop-append-le, take-append-le, length-drop}
 use Rattle.chdr_words.specs.Field.{word_at, words_at}
 use Rattle.chdr_words.specs.Header.{header_of}
-use Rattle.chdr_words.specs.Wire.{time_bytes, wire_size_of}
-use Rattle.chdr_words.specs.Status.{SpellsStatus, status_of, status_read}
-use Rattle.chdr_words.specs.Command.{SpellsCommand, command_of, command_read}
-use Rattle.chdr_words.specs.Control.{SpellsControl, control_read}
-use Rattle.chdr_words.specs.Management.{SpellsManagement, management_read}
-use Rattle.chdr_words.specs.Reads.{Reads}
-use Rattle.chdr_words.specs.declared.fault.MsgFault.{MsgFault}
+use Rattle.chdr_words.specs.Wire.{wire_size_of}
 use Rattle.chdr_words.specs.declared.header.Header.{Header}
 use Rattle.chdr_words.specs.declared.header.PktType.{PktType}
 use Rattle.chdr_words.specs.declared.header.PktType.TheVariants as types
-use Rattle.chdr_words.specs.declared.status.Status as statuses
-use Rattle.chdr_words.specs.declared.epid.Epid.{Epid}
-use Rattle.chdr_words.proofs.WordLemmas.{word_at-front, words_at-front, length-each_at}
-use Rattle.chdr_words.proofs.PlainLemmas.{status_takes, status_again, command_takes, command_again}
-use Rattle.chdr_words.proofs.ControlLemmas.{control_again, control_reads}
-use Rattle.chdr_words.proofs.ManagementReading.{IsBytes, small_take, management_again, management_reads}
+use Rattle.chdr_words.proofs.WordLemmas.{word_at-front, words_at-front}
 use Rattle.chdr_packets.specs.declared.fault.PacketFault.{PacketFault}
-use Rattle.chdr_packets.specs.declared.fault.PacketFault.TheVariants.{ReservedType, BadLength, Message, Memory}
+use Rattle.chdr_packets.specs.declared.fault.PacketFault.TheVariants.{ReservedType, BadLength}
 use Rattle.chdr_packets.specs.declared.packet.Packet.{Packet}
 use Rattle.chdr_packets.specs.declared.packet.Body.{Body}
-use Rattle.chdr_packets.specs.declared.packet.Body.TheVariants as bodies
-use Rattle.chdr_packets.specs.Grammar.{payload_plain, plain_under, is_plain, body_time, body_type, samples_type, header_for, SpellsBody, mdata_start, payload_start, Spells, type_time, start_of}
-use Rattle.chdr_packets.specs.Reading.{Gives, is_reserved, tests_of, frame_read, as_body, time_at, body_read, packet_of, packed, opened, packet_read, passed, IsFramed}
-
-abbrev the_body : Body → Result Body PacketFault → Body
-the_body other (Ok body) = body
-the_body other (Err fault) = other
+use Rattle.chdr_packets.specs.Grammar.{payload_plain, plain_under, is_plain, type_time, start_of}
+use Rattle.chdr_packets.specs.Reading.{Gives, is_reserved, tests_of, frame_read, time_at, body_read, packet_of, packed, opened, packet_read, passed, IsFramed}
 
 abbrev the_packet : Packet → Result (Option (Packet × ℕ)) PacketFault → Packet
 the_packet other (Ok None) = other
@@ -190,21 +174,6 @@ read-take b p n e =
     let first : word_at b 0 ≡ word_at x 0 = ap (λ (z : List ℕ). word_at z 0) (sym whole) ∙ word_at-front x (drop n b) 0 (omega (arith, len, least)) in
     let front : IsFramed h x = record { read = ap header_of (sym first) ∙ f.framed_by.read; good = f.framed_by.good; start = f.framed_by.start; whole = omega (arith, len, f.size) } in
     (le, least, sym (read-front h x (drop n b) front) ∙ ap packet_read whole ∙ e)
-
--- ---- what is read is spelled so
-
-pub record BodyIs (t : PktType) (time : Option ℕ) (payload : List ℕ) (body : Body) : Type 0 where
-  pub kind : body_type body ≡ t
-  pub timed : body_time body ≡ time
-  pub start : type_time t ≡ time_bytes (body_time body)
-  pub spelled : SpellsBody body payload
-
-abbrev fine : Body → Result Body PacketFault
-fine body = Ok body
-
-as_body_ok : {X : Type 0} (make : X → Body) (r : Result X MsgFault) (body : Body) → as_body make r ≡ fine body → (x : X) × (r ≡ Ok x) × (make x ≡ body)
-as_body_ok make (Ok x) body e = (x, refl, ap (λ (r : Result Body PacketFault). the_body body r) e)
-as_body_ok make (Err fault) body e = absurd cc
 
 -- ---- what a call answered
 

@@ -1,5 +1,5 @@
 -- What has a spelling.
-use Rattle.std.specs.Prelude.{ℕ, ◌<◌, ◌≤◌, ◌^◌, length}
+use Rattle.std.specs.Prelude.{◌<◌, ◌≤◌, ◌^◌, length}
 use Rattle.chdr_words.specs.Status.{FitsStatus}
 use Rattle.chdr_words.specs.Command.{FitsCommand}
 use Rattle.chdr_words.specs.Control.{FitsControl}

@@ -1,5 +1,5 @@
 -- Reading the packet at the front of bytes: the tests of type, Length and size, then its payload.
-use Rattle.std.specs.Prelude.{◌≡◌, ℕ, ◌+◌, ◌*◌, ◌≤◌, Bool, true, false, nat_lt, if◌then◌else◌, List, length, slice_range, Option, None, Some, Result, Ok, Err, IsTrue}
+use Rattle.std.specs.Prelude.{◌≡◌, ℕ, ◌+◌, ◌≤◌, Bool, true, false, nat_lt, if◌then◌else◌, List, length, slice_range, Option, None, Some, Result, Ok, Err, IsTrue}
 use Rattle.chdr_words.specs.Field.{word_at, words_at}
 use Rattle.chdr_words.specs.Header.{header_of}
 use Rattle.chdr_words.specs.Wire.{wire_size_of}
