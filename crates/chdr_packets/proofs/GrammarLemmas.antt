@@ -1,8 +1,8 @@
 -- A packet is read from bytes exactly where they spell it.
-use Rattle.std.proofs.Common.{◌≡◌, ℕ, ◌+◌, ◌-◌, Bool, true, false, cond, eqb, List, ◌++◌, length, take, drop, Option, None, Some, Result, Ok, Err, refl, sym, ap, subst, ◌∙◌, arith}
-use Rattle.std.specs.Prelude.{IfSome, slice_range}
+use Rattle.std.proofs.Common.{◌≡◌, ℕ, ◌≤◌, ◌+◌, ◌-◌, Bool, true, false, cond, eqb, List, ◌++◌, length, take, drop, Option, None, Some, Result, Ok, Err, refl, sym, ap, subst, ◌∙◌, arith}
+use Rattle.std.specs.Prelude.{IfSome, IfOk, slice_range}
 use Rattle.std.proofs.lemmas.Bool.{eqb-true}
-use Rattle.std.proofs.lemmas.List.{length-take, get_or-drop}
+use Rattle.std.proofs.lemmas.List.{length-take, get_or-drop, take-append-drop}
 use Rattle.chdr_words.specs.Field.{word_at, words_at}
 use Rattle.chdr_words.specs.Wire.{time_bytes}
 use Rattle.chdr_words.specs.Status.{SpellsStatus, status_of, status_read}
@@ -25,12 +25,12 @@ use Rattle.chdr_packets.specs.declared.packet.Packet.{Packet}
 use Rattle.chdr_packets.specs.declared.packet.Body.{Body}
 use Rattle.chdr_packets.specs.declared.packet.Body.TheVariants as bodies
 use Rattle.chdr_packets.specs.Grammar.{body_time, body_type, header_for, SpellsBody, payload_start, Spells, type_time, start_of}
-use Rattle.chdr_packets.specs.Reading.{is_reserved, as_body, time_at, body_read, packet_of, packed, opened, packet_read, IsFramed}
+use Rattle.chdr_packets.specs.Reading.{Gives, is_reserved, as_body, time_at, body_read, packet_of, packed, opened, packet_read, IsFramed}
 use Rattle.chdr_packets.proofs.PacketLemmas.{found, found_parts, frame_is, read-front, read-take}
 
 -- ---- what is read is spelled so
 
-abbrev fine : Body → Result Body PacketFault
+abbrev pub fine : Body → Result Body PacketFault
 fine body = Ok body
 
 abbrev the_body : Body → Result Body PacketFault → Body
@@ -103,7 +103,7 @@ time_stands types.Plain b = tt
 time_stands types.Timed b = refl
 time_stands (types.Reserved n) b = tt
 
-small_slice : (b : List ℕ) (i j : ℕ) → IsBytes b → IsBytes (slice_range b i j)
+pub small_slice : (b : List ℕ) (i j : ℕ) → IsBytes b → IsBytes (slice_range b i j)
 small_slice b i j small = λ k. small_take (j - i) (drop i b) k (λ m. rw get_or-drop (small (i + m)))
 
 with_type : (h : Header) (t : PktType) (count : ℕ) → t ≡ h.pkt_type → count ≡ h.num_mdata
@@ -181,3 +181,20 @@ pub spells_read : (b more : List ℕ) (p : Packet) → IsBytes b → Spells p b 
 spells_read b more p small s =
     let payload : List ℕ = slice_range b (payload_start p) s.len in
     read-front (header_for p s.len) b more (framed_again b p s payload (body_again p.body b payload s.time s.payload)) ∙ whole_read b p s
+
+-- ---- what a call answered
+
+pub gives_reads : (b : List ℕ) (r : Result (Option (Packet × ℕ)) PacketFault) → IsBytes b → Gives r (packet_read b) → IfOk r (λ found. IfSome found (λ x. Spells x.0 (take x.1 b)))
+gives_reads b (Ok None) small g = tt
+gives_reads b (Ok (Some x)) small g = read_spells b x.0 x.1 small g
+gives_reads b (Err fault) small g = tt
+
+-- what stands in front is read, whatever follows
+pub front_read : (b : List ℕ) (p : Packet) (n : ℕ) → IsBytes b → n ≤ length b → Spells p (take n b) → packet_read b ≡ found p n
+front_read b p n small le s =
+    let whole : take n b ++ drop n b ≡ b = take-append-drop n b in
+    let len : length (take n b) ≡ n = omega (arith, length-take n b, le) in
+    sym (ap packet_read whole) ∙ spells_read (take n b) (drop n b) p (λ i. small_take n b i small) s ∙ ap (found p) len
+
+pub gives_accepts : (b : List ℕ) (r : Result (Option (Packet × ℕ)) PacketFault) (p : Packet) (n : ℕ) → IsBytes b → Gives r (packet_read b) → n ≤ length b → Spells p (take n b) → Gives r (found p n)
+gives_accepts b r p n small g le s = subst (Gives r) (front_read b p n small le s) g

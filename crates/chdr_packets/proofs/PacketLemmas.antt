@@ -78,7 +78,7 @@ frame_ok b g e =
       whole = rw (← p.same) (ltb-false _ _ p.whole);
     }
 
-wire_long : (h : Header) (b : List ℕ) → IsFramed h b → 8 ≤ length b
+pub wire_long : (h : Header) (b : List ℕ) → IsFramed h b → 8 ≤ length b
 wire_long h b f = let long : 8 ≤ start_of h = omega arith in omega (arith, f.start, f.whole, long)
 
 pub frame_is : (b : List ℕ) (h : Header) → IsFramed h b → frame_read b ≡ framed h

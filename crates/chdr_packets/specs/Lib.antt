@@ -2,3 +2,4 @@ pub mod Length
 pub mod Fits
 pub mod Grammar
 pub mod Reading
+pub mod Refusals

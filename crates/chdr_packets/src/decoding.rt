@@ -1,9 +1,10 @@
 //! The packet at the front of bytes.
-ghost use Rattle.std.specs.Prelude.{◌≡◌, ◌+◌, ◌*◌, ◌≤◌, ◌==◌, false, ◌<◌, length, slice_range, Some, None, Ok, IfOk, IfSome, take, List, ℕ, IsTrue, IfNone, Option};
+ghost use Rattle.std.specs.Prelude.{◌≡◌, ◌↔◌, ◌+◌, ◌*◌, ◌≤◌, ◌==◌, false, ◌<◌, length, slice_range, Some, None, Ok, IfOk, IfSome, take, List, ℕ, IsTrue, IfNone, Option};
 ghost use Rattle.std.specs.List.{list_all};
 ghost use Rattle.chdr_words.specs.Field.{words_at};
 ghost use Rattle.chdr_words.specs.Wire.{wire_size_of};
 ghost use Rattle.chdr_packets.specs.Grammar.{Spells, is_plain, payload_plain, plain_under, start_of, type_time};
+ghost use Rattle.chdr_packets.specs.Refusals.{HasMemory, IsShort, Refuses};
 ghost use Rattle.chdr_packets.specs.Reading.{Gives, IsFaultOf, IsFramed, IsSized, body_read, frame_read, is_reserved, opened, packed, packet_read, passed, time_at};
 
 use crate::fault::PacketFault;
@@ -178,6 +179,11 @@ fn read(alloc: Global, b: &[u8]) -> Result<Option<(Packet, usize)>, PacketFault>
 /// The tests come in the order type, Length, size, payload.
 /// Rule: docs/wire-format.md, "Packets".
 pub fn decode(alloc: Global, b: &[u8]) -> Result<Option<(Packet, usize)>, PacketFault>
+    ensures reads { IfOk result (λ found. IfSome found (λ x. Spells x.0 (take x.1 b.now))) }
+    ensures accepts { (p : Packet) (n : ℕ) → n ≤ length b.now → Spells p (take n b.now)
+        → Gives result (Ok (Some (p, n))) }
+    ensures none { HasMemory result → ((result ≡ Ok None) ↔ IsShort b.now) }
+    ensures refuses { HasMemory result → Refuses result b.now }
     ensures exact { Gives result (packet_read b.now) }
     ensures within { IfOk result (λ found. IfSome found (λ x. (x.1 ≤ length b.now) × (8 ≤ x.1))) }
     ensures few { result ≡ Ok None → length b.now < 65536 }

@@ -1,5 +1,20 @@
+use Rattle.std.proofs.Common.{arith}
 use Rattle.chdr_packets.proofs.PacketLemmas.{gives_within, gives_few}
+use Rattle.chdr_packets.proofs.GrammarLemmas.{gives_reads, gives_accepts}
+use Rattle.chdr_packets.proofs.RefusalLemmas.{short_exactly, refuses_exactly}
 use Rattle.chdr_packets.proofs.decoding.decode.Goals as goal
+
+pub returns-clause-reads : goal.returns-clause-reads
+returns-clause-reads c = gives_reads c.args.b.now c.read.result (λ i. omega (arith, c.type_inv.b i)) c.read.ensures
+
+pub returns-clause-accepts : goal.returns-clause-accepts
+returns-clause-accepts c = λ p n le s. gives_accepts c.args.b.now c.read.result p n (λ i. omega (arith, c.type_inv.b i)) c.read.ensures le s
+
+pub returns-clause-none : goal.returns-clause-none
+returns-clause-none c = λ memory. short_exactly c.args.b.now c.read.result c.read.ensures memory
+
+pub returns-clause-refuses : goal.returns-clause-refuses
+returns-clause-refuses c = λ memory. refuses_exactly c.args.b.now c.read.result (λ i. omega (arith, c.type_inv.b i)) c.read.ensures memory
 
 pub returns-clause-within : goal.returns-clause-within
 returns-clause-within c = gives_within c.args.b.now c.read.result c.read.ensures
