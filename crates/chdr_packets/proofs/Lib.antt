@@ -1,3 +1,4 @@
 pub mod PacketLemmas
 pub mod GrammarLemmas
 pub mod RefusalLemmas
+pub mod LengthLemmas

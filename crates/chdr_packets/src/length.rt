@@ -1,4 +1,4 @@
-ghost use Rattle.std.specs.Prelude.{◌≡◌, ◌≤◌, ◌*◌, ◌+◌, length};
+ghost use Rattle.std.specs.Prelude.{◌≡◌, ◌<◌, ◌≤◌, ◌^◌, ◌*◌, ◌+◌, length};
 ghost use Rattle.std.specs.List.{sum_by};
 ghost use Rattle.chdr_packets.specs.Length.{body_length, length_of, wire_of};
 ghost use Rattle.chdr_words.specs.Wire.{time_bytes};
@@ -6,7 +6,8 @@ ghost use Rattle.chdr_words.specs.Wire.{time_bytes};
 use crate::packet::{Body, Packet};
 use chdr_words::{Hop, wire_size};
 
-fn time_bytes(time: Option<u64>) -> usize
+/// The bytes of a timestamp word, where there is one.
+pub(crate) fn time_bytes(time: Option<u64>) -> usize
     ensures { result ≡ time_bytes time }
 {
     match time {
@@ -15,8 +16,9 @@ fn time_bytes(time: Option<u64>) -> usize
     }
 }
 
-fn op_count(hops: &[Hop]) -> usize
-    requires { sum_by length hops.now ≤ 65535 }
+/// The operations of all hops.
+pub(crate) fn op_count(hops: &[Hop]) -> usize
+    requires { sum_by length hops.now < 2 ^ 64 }
     ensures { result ≡ sum_by length hops.now }
 {
     let mut count = 0;

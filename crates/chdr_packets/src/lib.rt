@@ -3,11 +3,13 @@
 
 mod decoding;
 mod fault;
+mod fitting;
 mod length;
 mod packet;
 
 pub use decoding::{decode, is_canonical, pass};
 pub use fault::PacketFault;
+pub use fitting::fits;
 pub use packet::{Body, Packet, PacketList};
 
 #[cfg(test)]
