@@ -1,5 +1,5 @@
 -- Sizes of packets that fit.
-use Rattle.std.proofs.Common.{ℕ, ◌*◌, ◌≤◌, All, List, length, arith}
+use Rattle.std.proofs.Common.{◌≤◌, All, List, length, arith}
 use Rattle.std.specs.List.{sum_by}
 use Rattle.std.proofs.lemmas.List.Sums.{sum_by-le}
 use Rattle.chdr_words.specs.declared.management.Management.{Management}

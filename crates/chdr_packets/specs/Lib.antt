@@ -3,3 +3,4 @@ pub mod Fits
 pub mod Grammar
 pub mod Reading
 pub mod Refusals
+pub mod Writing

@@ -2,12 +2,14 @@
 #![tactic(auto)]
 
 mod decoding;
+mod encoding;
 mod fault;
 mod fitting;
 mod length;
 mod packet;
 
 pub use decoding::{decode, is_canonical, pass};
+pub use encoding::encode;
 pub use fault::PacketFault;
 pub use fitting::fits;
 pub use packet::{Body, Packet, PacketList};
