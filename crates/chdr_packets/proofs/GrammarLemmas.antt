@@ -177,10 +177,13 @@ whole_read b p s =
     ∙ ap (packed h b) a.read
     ∙ found_same _ _ _ _ (with_mdata p _ mdata) (sym s.size)
 
-pub spells_read : (b more : List ℕ) (p : Packet) → IsBytes b → Spells p b → packet_read (b ++ more) ≡ found p (length b)
-spells_read b more p small s =
+pub spelled_read : (b more : List ℕ) (p : Packet) → Spells p b → packet_read (b ++ more) ≡ found p (length b)
+spelled_read b more p s =
     let payload : List ℕ = slice_range b (payload_start p) s.len in
     read-front (header_for p s.len) b more (framed_again b p s payload (body_again p.body b payload s.time s.payload)) ∙ whole_read b p s
+
+pub spells_read : (b more : List ℕ) (p : Packet) → IsBytes b → Spells p b → packet_read (b ++ more) ≡ found p (length b)
+spells_read b more p small s = spelled_read b more p s
 
 -- ---- what a call answered
 
@@ -190,11 +193,11 @@ gives_reads b (Ok (Some x)) small g = read_spells b x.0 x.1 small g
 gives_reads b (Err fault) small g = tt
 
 -- what stands in front is read, whatever follows
-pub front_read : (b : List ℕ) (p : Packet) (n : ℕ) → IsBytes b → n ≤ length b → Spells p (take n b) → packet_read b ≡ found p n
-front_read b p n small le s =
+pub front_read : (b : List ℕ) (p : Packet) (n : ℕ) → n ≤ length b → Spells p (take n b) → packet_read b ≡ found p n
+front_read b p n le s =
     let whole : take n b ++ drop n b ≡ b = take-append-drop n b in
     let len : length (take n b) ≡ n = omega (arith, length-take n b, le) in
-    sym (ap packet_read whole) ∙ spells_read (take n b) (drop n b) p (λ i. small_take n b i small) s ∙ ap (found p) len
+    sym (ap packet_read whole) ∙ spelled_read (take n b) (drop n b) p s ∙ ap (found p) len
 
-pub gives_accepts : (b : List ℕ) (r : Result (Option (Packet × ℕ)) PacketFault) (p : Packet) (n : ℕ) → IsBytes b → Gives r (packet_read b) → n ≤ length b → Spells p (take n b) → Gives r (found p n)
-gives_accepts b r p n small g le s = subst (Gives r) (front_read b p n small le s) g
+pub gives_accepts : (b : List ℕ) (r : Result (Option (Packet × ℕ)) PacketFault) (p : Packet) (n : ℕ) → Gives r (packet_read b) → n ≤ length b → Spells p (take n b) → Gives r (found p n)
+gives_accepts b r p n g le s = subst (Gives r) (front_read b p n le s) g

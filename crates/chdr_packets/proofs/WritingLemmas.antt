@@ -30,7 +30,7 @@ length-time : (time : Option ℕ) → length (time_spelled time) ≡ time_bytes 
 length-time None = refl
 length-time (Some t) = refl
 
-length-words : (ws : List ℕ) → length (words_bytes ws) ≡ 8 * length ws
+pub length-words : (ws : List ℕ) → length (words_bytes ws) ≡ 8 * length ws
 length-words ws = length-flat_map (to_le_bytes w64) ws ∙ eights ws
   where
     eights : (ws : List ℕ) → sum_by (λ x. 8) ws ≡ 8 * length ws
@@ -80,7 +80,7 @@ slice_end x y i j e f =
 
 -- ---- sizes of payloads
 
-size_of_hops : (hops : List (List MgmtOp)) → length (hops_words hops) ≡ sum_by length hops
+pub size_of_hops : (hops : List (List MgmtOp)) → length (hops_words hops) ≡ sum_by length hops
 size_of_hops [] = refl
 size_of_hops (hop ∷ hops) =
     ap length (flat_map-cons hop_words hop hops) ∙ length-append (hop_words hop) (hops_words hops)
@@ -90,15 +90,15 @@ size_of_hops (hop ∷ hops) =
     size_of_hop [] = refl
     size_of_hop (op ∷ ops) = ap suc (size_of_hop ops)
 
-and_parts : (a b : Bool) → (a && b) ≡ true → (a ≡ true) × (b ≡ true)
+pub and_parts : (a b : Bool) → (a && b) ≡ true → (a ≡ true) × (b ≡ true)
 and_parts true b e = (refl, e)
 and_parts false b e = absurd cc
 
-eight_times : (n : ℕ) (time : Option ℕ) → n ≡ time_bit time → 8 * n ≡ time_bytes time
+pub eight_times : (n : ℕ) (time : Option ℕ) → n ≡ time_bit time → 8 * n ≡ time_bytes time
 eight_times n None e = omega (arith, e)
 eight_times n (Some t) e = omega (arith, e)
 
-control_size_is : (payload : List ℕ) (c : Control) → SpellsControl c payload → control_plain payload ≡ true → length payload ≡ wire_size_of (control_size (time_bytes c.time) (length c.words))
+pub control_size_is : (payload : List ℕ) (c : Control) → SpellsControl c payload → control_plain payload ≡ true → length payload ≡ wire_size_of (control_size (time_bytes c.time) (length c.words))
 control_size_is payload c s plain =
     let told : told_time payload ≡ time_bytes c.time = eight_times _ c.time s.has_time in
     let reserved : Bool = eqb (field (word_at payload 0) 63 48) 0 && eqb (field (half_at payload (8 + told_time payload)) 29 28) 0 in
@@ -183,7 +183,7 @@ zeros (suc n) = zeros n
 
 -- ---- what a canonical spelling is
 
-length-slice : (b : List ℕ) (i j : ℕ) → i ≤ j → j ≤ length b → length (slice_range b i j) ≡ j - i
+pub length-slice : (b : List ℕ) (i j : ℕ) → i ≤ j → j ≤ length b → length (slice_range b i j) ≡ j - i
 length-slice b i j order within = omega (arith, order, within, length-take (j - i) (drop i b), length-drop i b)
 
 -- reserved bits and pad are zero

@@ -4,3 +4,4 @@ pub mod Grammar
 pub mod Reading
 pub mod Refusals
 pub mod Writing
+pub mod Laws

@@ -5,6 +5,7 @@ mod decoding;
 mod encoding;
 mod fault;
 mod fitting;
+mod laws;
 mod length;
 mod packet;
 
@@ -12,6 +13,10 @@ pub use decoding::{decode, is_canonical, pass};
 pub use encoding::encode;
 pub use fault::PacketFault;
 pub use fitting::fits;
+pub use laws::{
+    canonical_spellings_are_unique, one_packet_is_in_front, spelled_packets_fit,
+    spellings_are_read_back,
+};
 pub use packet::{Body, Packet, PacketList};
 
 #[cfg(test)]

@@ -8,7 +8,7 @@ pub returns-clause-reads : goal.returns-clause-reads
 returns-clause-reads c = gives_reads c.args.b.now c.read.result (λ i. omega (arith, c.type_inv.b i)) c.read.ensures
 
 pub returns-clause-accepts : goal.returns-clause-accepts
-returns-clause-accepts c = λ p n le s. gives_accepts c.args.b.now c.read.result p n (λ i. omega (arith, c.type_inv.b i)) c.read.ensures le s
+returns-clause-accepts c = λ p n le s. gives_accepts c.args.b.now c.read.result p n c.read.ensures le s
 
 pub returns-clause-none : goal.returns-clause-none
 returns-clause-none c = λ memory. short_exactly c.args.b.now c.read.result c.read.ensures memory

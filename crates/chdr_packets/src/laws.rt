@@ -1,0 +1,24 @@
+//! The laws of packets, for the crates above: each is the contract of a function that does nothing.
+ghost use Rattle.chdr_packets.specs.Laws.{OneAtFront, OneCanon, ReadsBack, SpelledFits};
+
+/// The packet at the front of bytes and its size are unique: two spellings that the same bytes begin
+/// with are of one packet, and equally long.
+pub fn one_packet_is_in_front()
+    ensures { OneAtFront }
+{}
+
+/// What is spelled, canonical or not, is read back with its size, whatever follows it.
+pub fn spellings_are_read_back()
+    ensures { ReadsBack }
+{}
+
+/// A packet that has a spelling fits. By `encode` one that fits has a canonical spelling.
+pub fn spelled_packets_fit()
+    ensures { SpelledFits }
+{}
+
+/// A packet has one canonical spelling at most: its reserved bits and pad bytes are zero, and the
+/// packet tells all others.
+pub fn canonical_spellings_are_unique()
+    ensures { OneCanon }
+{}
