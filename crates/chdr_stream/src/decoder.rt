@@ -1,4 +1,4 @@
-ghost use Rattle.std.specs.Prelude.{◌≡◌, ℕ, ◌+◌, ◌<◌, ◌≤◌, ◌^◌, ◌↔◌, ◌++◌, [], drop, length, Ok, None, Some, OnOk, OnErr, IfOk, IsErr};
+ghost use Rattle.std.specs.Prelude.{◌≡◌, ℕ, ◌+◌, ◌<◌, ◌≤◌, ◌^◌, ◌↔◌, ◌++◌, [], drop, vec_len, length, Ok, None, Some, OnOk, OnErr, IfOk, IsErr};
 ghost use Rattle.chdr_packets.specs.Reading.{packet_read};
 ghost use Rattle.chdr_stream.specs.Stream.{Answers, after, fed_with, passing_at, reading};
 
@@ -31,14 +31,17 @@ impl Model for Decoder {
     ghost invariant = { λ d. d.start ≤ vec_len d.bytes };
 }
 
-fn joined(alloc: Global, kept: &[u8], piece: &[u8]) -> Result<Vec<u8>, Memory>
-    requires { length kept.now + length piece.now < 2 ^ 64 }
-    ensures { IfOk result (λ made. made.items ≡ kept.now ++ piece.now) }
+/// Moves the bytes behind the first ones to the front, in the memory that they have.
+fn let_go(bytes: &mut Vec<u8>, count: usize)
+    requires { count ≤ vec_len bytes.old }
+    ensures { bytes.new.items ≡ drop count bytes.old.items }
 {
-    let mut made = Vec::with_capacity(alloc, kept.len() + piece.len())?;
-    made.extend_from_slice(kept)?;
-    made.extend_from_slice(piece)?;
-    Ok(made)
+    if count == 0 {
+        return;
+    }
+    let left = bytes.len() - count;
+    bytes.copy_within(count.., 0);
+    bytes.truncate(left);
 }
 
 impl Decoder {
@@ -54,6 +57,8 @@ impl Decoder {
     }
 
     /// Appends the piece; at a fault it changes nothing.
+    ///
+    /// It costs what the bytes kept and the piece cost, and memory only where both don't fit into what it has.
     pub fn feed(&mut self, piece: &[u8]) -> Result<(), Memory>
         requires { self.old.at + length self.old.kept + length piece.now < 2 ^ 64 }
         ensures ok { OnOk result (self.new ≡ fed_with self.old piece.now) }
@@ -62,12 +67,9 @@ impl Decoder {
         if self.fault.is_some() {
             return Ok(());
         }
-        if self.start == 0 {
-            self.bytes.extend_from_slice(piece)?;
-            return Ok(());
-        }
-        self.bytes = joined(*self.bytes.allocator(), &self.bytes[self.start..], piece)?;
+        let_go(&mut self.bytes, self.start);
         self.start = 0;
+        self.bytes.extend_from_slice(piece)?;
         Ok(())
     }
 
