@@ -1,1 +1,4 @@
 pub mod StreamLemmas
+pub mod CaptureLemmas
+pub mod FaultLemmas
+pub mod CutLemmas

@@ -1,15 +1,15 @@
 -- The packets of pieces are those of the whole.
-use Rattle.std.proofs.Common.{Bool, ◌≡◌, ℕ, zero, suc, ◌+◌, ◌-◌, ◌<◌, ◌≤◌, List, [], ◌∷◌, ◌++◌, length, drop, Option, None, Some, Result, Ok, Err, refl, sym, ap, subst, ◌∙◌, append_assoc, add-one, arith}
+use Rattle.std.proofs.Common.{Bool, ◌≡◌, ℕ, zero, suc, ◌+◌, ◌-◌, ◌<◌, ◌≤◌, List, [], ◌∷◌, ◌++◌, length, drop, Option, None, Some, Result, Ok, Err, refl, sym, ap, ◌∙◌, append_assoc, arith}
 use Rattle.std.proofs.lemmas.List.{append-nil, nil_from_length, length-drop, length-append, drop-append-le}
 use Rattle.chdr_packets.specs.Grammar.{is_plain}
 use Rattle.chdr_packets.specs.Reading.{packet_read}
 use Rattle.chdr_packets.specs.declared.fault.PacketFault.{PacketFault}
 use Rattle.chdr_packets.specs.declared.packet.Packet.{Packet}
-use Rattle.chdr_packets.proofs.PacketLemmas.{found, read-take, found_parts, read-front, read_more, plain_more, fails_more, nothing_read}
+use Rattle.chdr_packets.proofs.PacketLemmas.{found, read-take, read_more, plain_more, fails_more, nothing_read}
 use Rattle.chdr_stream.specs.declared.placed.Placed.{Placed}
 use Rattle.chdr_stream.specs.Capture.{Reason, bad, truncated, Capture, behind, part_at, capture_from, capture_of, Decoded}
 
-abbrev with_items : List Placed → Option (ℕ × Reason) → Capture
+abbrev pub with_items : List Placed → Option (ℕ × Reason) → Capture
 with_items items fault = record { items = items; fault = fault }
 
 -- a packet's other bytes are passed over
@@ -39,15 +39,15 @@ capture-part at (x ∷ b) p (suc n) e =
 
 -- ---- faults
 
-abbrev marked : ℕ → Bool → Packet → Placed
+abbrev pub marked : ℕ → Bool → Packet → Placed
 marked at canonical p = record { at = at; canonical = canonical; packet = p }
 
-capture-bad : (at : ℕ) (b : List ℕ) (fault : PacketFault) → packet_read b ≡ Err fault → capture_from 0 at b ≡ with_items [] (Some (at, bad fault))
+pub capture-bad : (at : ℕ) (b : List ℕ) (fault : PacketFault) → packet_read b ≡ Err fault → capture_from 0 at b ≡ with_items [] (Some (at, bad fault))
 unfolding capture_from
 capture-bad at [] fault e = absurd (nothing_read fault e)
 capture-bad at (x ∷ b) fault e = ap (λ (r : Result (Option (Packet × ℕ)) PacketFault). part_at at (x ∷ b) r (λ skip. capture_from skip (at + 1) b)) e
 
-capture-cut : (at : ℕ) (b : List ℕ) → packet_read b ≡ Ok None → 0 < length b → capture_from 0 at b ≡ with_items [] (Some (at, truncated))
+pub capture-cut : (at : ℕ) (b : List ℕ) → packet_read b ≡ Ok None → 0 < length b → capture_from 0 at b ≡ with_items [] (Some (at, truncated))
 unfolding capture_from
 capture-cut at [] e some = absurd (omega arith)
 capture-cut at (x ∷ b) e some = ap (λ (r : Result (Option (Packet × ℕ)) PacketFault). part_at at (x ∷ b) r (λ skip. capture_from skip (at + 1) b)) e

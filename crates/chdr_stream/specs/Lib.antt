@@ -1,2 +1,6 @@
 pub mod Capture
 pub mod Stream
+pub mod FirstFault
+pub mod Places
+pub mod Calls
+pub mod Laws

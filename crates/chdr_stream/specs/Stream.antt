@@ -1,11 +1,13 @@
 -- A decoder: its place, the bytes that it keeps, and the fault that it stands at.
-use Rattle.std.specs.Prelude.{◌≡◌, ℕ, ◌+◌, ◌≤◌, List, ◌++◌, drop, length, Option, None, Some, Result, Ok, Err, Bool}
+use Rattle.std.specs.Prelude.{◌≡◌, ℕ, ◌+◌, ◌==◌, if◌then◌else◌, List, ◌++◌, drop, length, Option, None, Some, Result, Ok, Err}
 use Rattle.chdr_packets.specs.Grammar.{is_plain}
 use Rattle.chdr_packets.specs.Reading.{packet_read}
 use Rattle.chdr_packets.specs.declared.fault.PacketFault.{PacketFault}
 use Rattle.chdr_packets.specs.declared.packet.Packet.{Packet}
 use Rattle.chdr_stream.specs.declared.placed.Placed.{Placed}
 use Rattle.chdr_stream.specs.declared.placed.Passed.{Passed}
+use Rattle.chdr_stream.specs.declared.placed.FinishFault.{FinishFault}
+use Rattle.chdr_stream.specs.declared.placed.FinishFault.TheVariants.{Truncated}
 use Rattle.chdr_stream.specs.declared.placed.StreamFault.{StreamFault}
 use Rattle.chdr_stream.specs.declared.placed.StreamFault.TheVariants.{Bad, Memory}
 
@@ -53,3 +55,7 @@ abbrev pub Answers : Stream → Stream → Result (Option Placed) StreamFault �
 Answers old new (Ok found) = (answer_at old (reading old) ≡ Ok found) × (new ≡ after old (reading old))
 Answers old new (Err (Bad at fault)) = (answer_at old (reading old) ≡ Err (Bad at fault)) × (new ≡ after old (reading old))
 Answers old new (Err Memory) = new ≡ old
+
+-- the end is refused exactly where bytes are left, at the place where they begin
+abbrev pub finish_at : Stream → Result (Unit {0}) FinishFault
+finish_at s = if length s.kept == 0 then Ok tt else Err (Truncated s.at)

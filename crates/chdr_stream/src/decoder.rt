@@ -1,6 +1,6 @@
 ghost use Rattle.std.specs.Prelude.{◌≡◌, ℕ, ◌+◌, ◌<◌, ◌≤◌, ◌^◌, ◌↔◌, ◌++◌, [], drop, vec_len, length, Ok, None, Some, OnOk, OnErr, IfOk, IsErr};
 ghost use Rattle.chdr_packets.specs.Reading.{packet_read};
-ghost use Rattle.chdr_stream.specs.Stream.{Answers, after, fed_with, passing_at, reading};
+ghost use Rattle.chdr_stream.specs.Stream.{Answers, after, fed_with, finish_at, passing_at, reading};
 
 use crate::placed::{FinishFault, Passed, Placed, StreamFault};
 use chdr_packets::{PacketFault, decode, is_canonical, pass};
@@ -149,13 +149,11 @@ impl Decoder {
     /// Whether the stream ends here: no bytes are left.
     pub fn finish(&self) -> Result<(), FinishFault>
         requires { reading self.now ≡ Ok None }
-        ensures truncated { IsErr result ↔ (0 < length self.now.kept) }
-        ensures place { (at : ℕ) → result ≡ Err (FinishFault.Truncated at) → at ≡ self.now.at }
+        ensures { result ≡ finish_at self.now }
     {
-        if self.start < self.bytes.len() {
-            Err(FinishFault::Truncated { at: self.at })
-        } else {
-            Ok(())
+        if self.left() == 0 {
+            return Ok(());
         }
+        Err(FinishFault::Truncated { at: self.at })
     }
 }

@@ -1,0 +1,269 @@
+-- What lists of calls give, whatever pieces the bytes came in.
+use Rattle.std.proofs.Common.{Bool, true, false, cond, eqb, ne_eqb, ◌≡◌, ℕ, ◌+◌, List, [], ◌∷◌, ◌++◌, length, take, drop, Option, None, Some, Result, Ok, Err, refl, sym, ap, subst, ◌∙◌, append_assoc, arith}
+use Rattle.std.proofs.Math.Seq.{take-append_seam}
+use Rattle.std.proofs.lemmas.Bool.{eqb-true}
+use Rattle.std.proofs.lemmas.List.{append-nil, nil_from_length, length-append, length-take-le, take-append-drop}
+use Rattle.chdr_words.proofs.ManagementReading.{IsBytes}
+use Rattle.chdr_packets.specs.Grammar.{is_plain}
+use Rattle.chdr_packets.specs.Reading.{packet_read}
+use Rattle.chdr_packets.specs.declared.fault.PacketFault.{PacketFault}
+use Rattle.chdr_packets.specs.declared.packet.Packet.{Packet}
+use Rattle.chdr_packets.proofs.PacketLemmas.{found, read-take, fails_more}
+use Rattle.chdr_stream.specs.declared.placed.Placed.{Placed}
+use Rattle.chdr_stream.specs.declared.placed.StreamFault.{StreamFault}
+use Rattle.chdr_stream.specs.declared.placed.StreamFault.TheVariants.{Bad, Memory}
+use Rattle.chdr_stream.specs.declared.placed.FinishFault.{FinishFault}
+use Rattle.chdr_stream.specs.declared.placed.FinishFault.TheVariants as finishes
+use Rattle.chdr_stream.specs.Capture.{Reason, bad, truncated, Capture, behind, capture_from, capture_of}
+use Rattle.chdr_stream.specs.FirstFault.{AreBytes}
+use Rattle.chdr_stream.specs.Places.{IsPlaced, ArePlaced}
+use Rattle.chdr_stream.specs.Stream.{Stream, fed_with, reading, answer_at, after, passing_at}
+use Rattle.chdr_stream.specs.Calls.{Call, feeds, asks, wants, opened, with_call, given, given_with, fed_with_call, with_calls, given_by, fed_by, IsRead, FindsNone, IsDrained, stop_at}
+use Rattle.chdr_stream.specs.Laws.{KeepsRest, NamesFault, NamesCut, EndsWhole, IsAnyCut, StaysAtFault, IsACall, PassTells, without_packet}
+use Rattle.chdr_stream.proofs.StreamLemmas.{with_items, marked, capture-bad, capture-cut}
+use Rattle.chdr_stream.proofs.CaptureLemmas.{are_bytes, front_bytes, back_bytes, placed_shown, one_placed}
+use Rattle.chdr_stream.proofs.FaultLemmas.{capture_none, first_shown}
+
+abbrev state : ℕ → List ℕ → Option PacketFault → Stream
+state at kept fault = record { at = at; kept = kept; fault = fault }
+
+-- the bytes behind the packets given are kept, or have the fault
+abbrev pub Stands : Option PacketFault → List ℕ → List ℕ → Type 0
+Stands None kept rest = rest ≡ kept
+Stands (Some fault) kept rest = packet_read rest ≡ Err fault
+
+pub record Cut (fed : List ℕ) (items : List Placed) (s : Stream) : Type 0 where
+  pub front : List ℕ
+  pub rest : List ℕ
+  pub whole : fed ≡ front ++ rest
+  pub place : s.at ≡ length front
+  pub placed : ArePlaced 0 items front
+  pub stands : Stands s.fault s.kept rest
+
+-- ---- a call
+
+placed_more : (at : ℕ) (items : List Placed) (x : List ℕ) (item : Placed) (b : List ℕ) → ArePlaced at items x → IsPlaced (at + length x) item b → ArePlaced at (items ++ item ∷ []) (x ++ b)
+placed_more at [] x item b none one =
+    let here : at + length x ≡ at = omega (arith, ap length none) in
+    (b, [], ap (λ (l : List ℕ). l ++ b) none ∙ sym (append-nil b), subst (λ (k : ℕ). IsPlaced k item b) here one, refl)
+placed_more at (first ∷ items) x item b (front, rest, split, head, others) one =
+    let len : at + length x ≡ at + length front + length rest = omega (arith, ap length split, length-append front rest) in
+    (front, rest ++ b, ap (λ (l : List ℕ). l ++ b) split ∙ append_assoc front rest b, head, placed_more (at + length front) items rest item b others (subst (λ (k : ℕ). IsPlaced k item b) len one))
+
+fed_stands : (at : ℕ) (kept : List ℕ) (fault : Option PacketFault) (rest piece : List ℕ) → Stands fault kept rest → Stands fault (fed_with (state at kept fault) piece).kept (rest ++ piece)
+fed_stands at kept None rest piece e = ap (λ (l : List ℕ). l ++ piece) e
+fed_stands at kept (Some fault) rest piece e = fails_more rest piece fault e
+
+cut_fed : (fed : List ℕ) (items : List Placed) (s : Stream) (piece : List ℕ) → Cut fed items s → Cut (fed ++ piece) items (fed_with s piece)
+cut_fed fed items s piece c = record {
+  front = c.front;
+  rest = c.rest ++ piece;
+  whole = ap (λ (l : List ℕ). l ++ piece) c.whole ∙ append_assoc c.front c.rest piece;
+  place = c.place;
+  placed = c.placed;
+  stands = fed_stands s.at s.kept s.fault c.rest piece c.stands;
+}
+
+-- what is found at the front of the bytes kept is given
+cut_found : (fed : List ℕ) (items : List Placed) (at : ℕ) (kept : List ℕ) (p : Packet) (n : ℕ) → IsBytes fed → packet_read kept ≡ found p n → Cut fed items (state at kept None)
+    → Cut fed (items ++ marked at (is_plain kept) p ∷ []) (state (at + n) (drop n kept) None)
+cut_found fed items at kept p n small e c =
+    let t = read-take kept p n e in
+    let bytes : IsBytes kept = subst IsBytes c.stands (back_bytes c.front c.rest (subst IsBytes c.whole small)) in
+    let one : IsPlaced (0 + length c.front) (marked at (is_plain kept) p) (take n kept) = subst (λ (k : ℕ). IsPlaced k (marked at (is_plain kept) p) (take n kept)) (omega (arith, c.place)) (one_placed at kept p n bytes e) in
+    record {
+      front = c.front ++ take n kept;
+      rest = drop n kept;
+      whole = c.whole ∙ ap (λ (l : List ℕ). c.front ++ l) (c.stands ∙ sym (take-append-drop n kept)) ∙ sym (append_assoc c.front (take n kept) (drop n kept));
+      place = omega (arith, c.place, length-append c.front (take n kept), length-take-le n kept t.0);
+      placed = placed_more 0 items c.front (marked at (is_plain kept) p) (take n kept) c.placed one;
+      stands = refl;
+    }
+
+cut_kept : (fed : List ℕ) (items : List Placed) (s : Stream) → Cut fed items s → Cut fed (items ++ []) s
+cut_kept fed items s c = subst (λ (l : List Placed). Cut fed l s) (sym (append-nil items)) c
+
+cut_asked : (fed : List ℕ) (items : List Placed) (at : ℕ) (kept : List ℕ) (fault : Option PacketFault) → IsBytes fed → Cut fed items (state at kept fault)
+    → Cut fed (items ++ given (answer_at (state at kept fault) (reading (state at kept fault)))) (after (state at kept fault) (reading (state at kept fault)))
+cut_asked fed items at kept (Some fault) small c = cut_kept fed items (state at kept (Some fault)) c
+cut_asked fed items at kept None small c = cases (packet_read kept) refl
+  where
+    cases : (r : Result (Option (Packet × ℕ)) PacketFault) → packet_read kept ≡ r → Cut fed (items ++ given (answer_at (state at kept None) r)) (after (state at kept None) r)
+    cases (Ok None) is = cut_kept fed items (state at kept None) c
+    cases (Ok (Some (p, n))) is = cut_found fed items at kept p n small is c
+    cases (Err fault) is = cut_kept fed items (state at kept (Some fault)) (record { front = c.front; rest = c.rest; whole = c.whole; place = c.place; placed = c.placed; stands = ap packet_read c.stands ∙ is })
+
+cut_call : (fed : List ℕ) (items : List Placed) (s : Stream) (call : Call) → IsBytes fed → Cut fed items s → Cut (fed ++ fed_with_call call) (items ++ given_with s call) (with_call s call)
+cut_call fed items s (feeds piece) small c = cut_kept (fed ++ piece) items (fed_with s piece) (cut_fed fed items s piece c)
+cut_call fed items s asks small c = subst (λ (l : List ℕ). Cut l (items ++ given_with s asks) (with_call s asks)) (sym (append-nil fed)) (cut_asked fed items s.at s.kept s.fault small c)
+cut_call fed items s wants small c = subst (λ (l : List ℕ). Cut l (items ++ []) s) (sym (append-nil fed)) (cut_kept fed items s c)
+
+cut_calls : (calls : List Call) (fed : List ℕ) (items : List Placed) (s : Stream) → IsBytes (fed ++ fed_by calls) → Cut fed items s → Cut (fed ++ fed_by calls) (items ++ given_by s calls) (with_calls s calls)
+cut_calls [] fed items s small c = subst (λ (l : List ℕ). Cut l (items ++ []) s) (sym (append-nil fed)) (cut_kept fed items s c)
+cut_calls (call ∷ calls) fed items s small c =
+    let split : (fed ++ fed_with_call call) ++ fed_by calls ≡ fed ++ (fed_with_call call ++ fed_by calls) = append_assoc fed (fed_with_call call) (fed_by calls) in
+    let some : (items ++ given_with s call) ++ given_by (with_call s call) calls ≡ items ++ (given_with s call ++ given_by (with_call s call) calls) = append_assoc items (given_with s call) (given_by (with_call s call) calls) in
+    let more = cut_calls calls (fed ++ fed_with_call call) (items ++ given_with s call) (with_call s call) (subst IsBytes (sym split) small) (cut_call fed items s call (front_bytes fed (fed_with_call call ++ fed_by calls) small) c) in
+    subst (λ (l : List ℕ). Cut l (items ++ (given_with s call ++ given_by (with_call s call) calls)) (with_calls (with_call s call) calls)) split
+    (subst (λ (l : List Placed). Cut ((fed ++ fed_with_call call) ++ fed_by calls) l (with_calls (with_call s call) calls)) some more)
+
+pub cut : (calls : List Call) → IsBytes (fed_by calls) → Cut (fed_by calls) (given_by opened calls) (with_calls opened calls)
+cut calls small = cut_calls calls [] [] opened small (record { front = []; rest = []; whole = refl; place = refl; placed = refl; stands = refl })
+
+-- ---- the laws
+
+keeps : (fed : List ℕ) (items : List Placed) (at : ℕ) (kept : List ℕ) (fault : Option PacketFault) → fault ≡ None → Cut fed items (state at kept fault) → IsRead fed items at kept
+keeps fed items at kept None e c = record { front = c.front; whole = c.whole ∙ ap (λ (l : List ℕ). c.front ++ l) c.stands; place = c.place; placed = c.placed }
+keeps fed items at kept (Some fault) e c = absurd cc
+
+pub keeps_rest : KeepsRest
+keeps_rest calls all none =
+    let s = with_calls opened calls in
+    keeps (fed_by calls) (given_by opened calls) s.at s.kept s.fault none (cut calls (are_bytes (fed_by calls) all))
+
+-- what is shown where the bytes behind the packets given have a fault, whatever follows
+shown_bad : (fed more : List ℕ) (items : List Placed) (s : Stream) (c : Cut fed items s) (fault : PacketFault) → IsBytes fed → packet_read c.rest ≡ Err fault
+    → capture_of (fed ++ more) ≡ with_items items (Some (s.at, bad fault))
+shown_bad fed more items s c fault small e =
+    let place : 0 + length c.front ≡ s.at = omega (arith, c.place) in
+    ap (λ (l : List ℕ). capture_of (l ++ more)) c.whole ∙ ap capture_of (append_assoc c.front c.rest more)
+    ∙ placed_shown 0 items c.front (c.rest ++ more) (front_bytes c.front c.rest (subst IsBytes c.whole small)) c.placed
+    ∙ ap (λ (k : ℕ). behind items (capture_from 0 k (c.rest ++ more))) place
+    ∙ ap (behind items) (capture-bad s.at (c.rest ++ more) fault (fails_more c.rest more fault e))
+    ∙ ap (λ (l : List Placed). with_items l (Some (s.at, bad fault))) (append-nil items)
+
+-- an answered fault stands behind the packets given
+record Answered (s : Stream) (rest : List ℕ) (at : ℕ) (fault : PacketFault) : Type 0 where
+  pub place : at ≡ s.at
+  pub read : packet_read rest ≡ Err fault
+
+bad_answer : (a : ℕ) (kept : List ℕ) (f : Option PacketFault) (rest : List ℕ) (at : ℕ) (fault : PacketFault) → Stands f kept rest
+    → answer_at (state a kept f) (reading (state a kept f)) ≡ Err (Bad at fault) → Answered (state a kept f) rest at fault
+bad_answer a kept (Some f) rest at fault stands e = let p = parts a at f fault e in record { place = sym p.0; read = stands ∙ ap (λ (g : PacketFault). Err g) p.1 }
+  where
+    parts : (a at : ℕ) (f g : PacketFault) → ◌≡◌ {A = Result (Option Placed) StreamFault} (Err (Bad a f)) (Err (Bad at g)) → (a ≡ at) × (f ≡ g)
+    parts a at f g e = (cc, cc)
+bad_answer a kept None rest at fault stands e = cases (packet_read kept) refl e
+  where
+    parts : (a at : ℕ) (f g : PacketFault) → ◌≡◌ {A = Result (Option Placed) StreamFault} (Err (Bad a f)) (Err (Bad at g)) → (a ≡ at) × (f ≡ g)
+    parts a at f g e = (cc, cc)
+
+    cases : (r : Result (Option (Packet × ℕ)) PacketFault) → packet_read kept ≡ r → answer_at (state a kept None) r ≡ Err (Bad at fault) → Answered (state a kept None) rest at fault
+    cases (Ok None) is e = absurd cc
+    cases (Ok (Some x)) is e = absurd cc
+    cases (Err f) is e = let p = parts a at f fault e in record { place = sym p.0; read = ap packet_read stands ∙ is ∙ ap (λ (g : PacketFault). Err g) p.1 }
+
+pub names_fault : NamesFault
+names_fault calls more at fault all e =
+    let fed = fed_by calls in
+    let s = with_calls opened calls in
+    let small : IsBytes fed = front_bytes fed more (are_bytes (fed ++ more) all) in
+    let c = cut calls small in
+    let a = bad_answer s.at s.kept s.fault c.rest at fault c.stands e in
+    let is : capture_of (fed ++ more) ≡ with_items (given_by opened calls) (Some (at, bad fault)) =
+    shown_bad fed more (given_by opened calls) s c fault small a.read ∙ ap (λ (k : ℕ). with_items (given_by opened calls) (Some (k, bad fault))) (sym a.place) in
+    let front : c.front ≡ take at (fed ++ more) =
+    sym (take-append_seam c.front (c.rest ++ more)) ∙ ap (λ (k : ℕ). take k (c.front ++ (c.rest ++ more))) (sym (a.place ∙ c.place))
+    ∙ ap (take at) (sym (ap (λ (l : List ℕ). l ++ more) c.whole ∙ append_assoc c.front c.rest more)) in
+    (first_shown (fed ++ more) at (bad fault) all (ap (λ (x : Capture). x.fault) is), subst (ArePlaced 0 (given_by opened calls)) front c.placed)
+
+abbrev ending : Bool → ℕ → Option (ℕ × Reason)
+ending none at = cond none None (Some (at, truncated))
+
+-- what is shown where no whole packet is left
+rest_shown : (at : ℕ) (kept : List ℕ) → packet_read kept ≡ Ok None → capture_from 0 at kept ≡ with_items [] (stop_at (state at kept None) (Ok None))
+rest_shown at [] is = capture_none at
+rest_shown at (x ∷ kept) is =
+    let some : eqb (length (x ∷ kept)) 0 ≡ false = ne_eqb _ _ (λ e. omega (arith, e)) in
+    capture-cut at (x ∷ kept) is (omega arith) ∙ ap (λ (none : Bool). with_items [] (ending none at)) (sym some)
+
+shown_rest : (fed : List ℕ) (items : List Placed) (at : ℕ) (kept : List ℕ) → IsBytes fed → packet_read kept ≡ Ok None → Cut fed items (state at kept None)
+    → capture_of fed ≡ with_items items (stop_at (state at kept None) (Ok None))
+shown_rest fed items at kept small is c =
+    let place : 0 + length c.front ≡ at = omega (arith, c.place) in
+    ap capture_of c.whole ∙ placed_shown 0 items c.front c.rest (front_bytes c.front c.rest (subst IsBytes c.whole small)) c.placed
+    ∙ ap (λ (k : ℕ). behind items (capture_from 0 k c.rest)) place
+    ∙ ap (λ (l : List ℕ). behind items (capture_from 0 at l)) c.stands
+    ∙ ap (behind items) (rest_shown at kept is)
+    ∙ ap (λ (l : List Placed). with_items l (stop_at (state at kept None) (Ok None))) (append-nil items)
+
+bad_shown : (fed : List ℕ) (items : List Placed) (s : Stream) (c : Cut fed items s) (fault : PacketFault) → IsBytes fed → packet_read c.rest ≡ Err fault → capture_of fed ≡ with_items items (Some (s.at, bad fault))
+bad_shown fed items s c fault small e = ap capture_of (sym (append-nil fed)) ∙ shown_bad fed [] items s c fault small e
+
+drained_shown : (fed : List ℕ) (items : List Placed) (at : ℕ) (kept : List ℕ) (fault : Option PacketFault) → IsBytes fed → IsDrained (state at kept fault) → Cut fed items (state at kept fault)
+    → capture_of fed ≡ with_items items (stop_at (state at kept fault) (reading (state at kept fault)))
+drained_shown fed items at kept (Some fault) small drained c = bad_shown fed items (state at kept (Some fault)) c fault small c.stands
+drained_shown fed items at kept None small drained c = cases (packet_read kept) refl drained
+  where
+    cases : (r : Result (Option (Packet × ℕ)) PacketFault) → packet_read kept ≡ r → FindsNone r → capture_of fed ≡ with_items items (stop_at (state at kept None) r)
+    cases (Ok None) is none = shown_rest fed items at kept small is c
+    cases (Ok (Some x)) is none = absurd none
+    cases (Err fault) is none = bad_shown fed items (state at kept None) c fault small (ap packet_read c.stands ∙ is)
+
+pub any_cut : IsAnyCut
+any_cut calls all drained =
+    let s = with_calls opened calls in
+    let small = are_bytes (fed_by calls) all in
+    drained_shown (fed_by calls) (given_by opened calls) s.at s.kept s.fault small drained (cut calls small)
+
+-- ---- the end
+
+ended_shown : (calls : List Call) → AreBytes (fed_by calls) → reading (with_calls opened calls) ≡ Ok None → capture_of (fed_by calls) ≡ with_items (given_by opened calls) (stop_at (with_calls opened calls) (Ok None))
+ended_shown calls all none =
+    any_cut calls all (subst FindsNone (sym none) tt) ∙ ap (λ (r : Result (Option (Packet × ℕ)) PacketFault). with_items (given_by opened calls) (stop_at (with_calls opened calls) r)) none
+
+abbrev finished : Bool → ℕ → Result (Unit {0}) FinishFault
+finished none at = cond none (Ok tt) (Err (finishes.Truncated at))
+
+refused : (none : Bool) (at place : ℕ) → finished none at ≡ Err (finishes.Truncated place) → ending none at ≡ Some (place, truncated)
+refused true at place e = absurd cc
+refused false at place e = let same : at ≡ place = cc in ap (λ (k : ℕ). Some (k, truncated)) same
+
+pub names_cut : NamesCut
+names_cut calls at all none e =
+    let s = with_calls opened calls in
+    first_shown (fed_by calls) at truncated all (ap (λ (x : Capture). x.fault) (ended_shown calls all none) ∙ refused (eqb (length s.kept) 0) s.at at e)
+
+accepted : (none : Bool) (at : ℕ) → finished none at ≡ Ok tt → none ≡ true
+accepted true at e = refl
+accepted false at e = absurd cc
+
+pub ends_whole : EndsWhole
+ends_whole calls all none e =
+    let s = with_calls opened calls in
+    let c = cut calls (are_bytes (fed_by calls) all) in
+    let left : length s.kept ≡ 0 = eqb-true _ _ (accepted (eqb (length s.kept) 0) s.at e) in
+    let kept : IsRead (fed_by calls) (given_by opened calls) s.at s.kept = keeps_rest calls all (unfaulted s.at s.kept s.fault none) in
+    subst (ArePlaced 0 (given_by opened calls)) (sym (kept.whole ∙ ap (λ (l : List ℕ). kept.front ++ l) (nil_from_length s.kept left) ∙ append-nil kept.front)) kept.placed
+  where
+    unfaulted : (at : ℕ) (kept : List ℕ) (fault : Option PacketFault) → reading (state at kept fault) ≡ Ok None → fault ≡ None
+    unfaulted at kept None e = refl
+    unfaulted at kept (Some fault) e = absurd cc
+
+-- ---- what the clauses say
+
+pub next_calls : IsACall
+next_calls old new (Ok found) answers = (asks, answers.1, ap given (sym answers.0), refl)
+next_calls old new (Err (Bad at fault)) answers = (asks, answers.1, ap given (sym answers.0), refl)
+next_calls old new (Err Memory) answers = (wants, answers, refl, refl)
+
+pub pass_tells : PassTells
+pass_tells s = cases (reading s)
+  where
+    cases : (r : Result (Option (Packet × ℕ)) PacketFault) → passing_at s r ≡ without_packet (answer_at s r)
+    cases (Ok None) = refl
+    cases (Ok (Some x)) = refl
+    cases (Err fault) = refl
+
+-- ---- at a fault
+
+stays : (at : ℕ) (kept : List ℕ) (fault : PacketFault) (calls : List Call)
+    → (with_calls (state at kept (Some fault)) calls ≡ state at kept (Some fault)) × (given_by (state at kept (Some fault)) calls ≡ [])
+stays at kept fault [] = (refl, refl)
+stays at kept fault (feeds piece ∷ calls) = stays at kept fault calls
+stays at kept fault (asks ∷ calls) = stays at kept fault calls
+stays at kept fault (wants ∷ calls) = stays at kept fault calls
+
+pub stays_at_fault : StaysAtFault
+stays_at_fault s fault calls e =
+    subst (λ (f : Option PacketFault). (with_calls (state s.at s.kept f) calls ≡ state s.at s.kept f) × (given_by (state s.at s.kept f) calls ≡ [])) (sym e) (stays s.at s.kept fault calls)
