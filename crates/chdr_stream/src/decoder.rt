@@ -77,6 +77,7 @@ impl Decoder {
     pub fn next(&mut self) -> Result<Option<Placed>, StreamFault>
         requires { self.old.at + length self.old.kept < 2 ^ 64 }
         ensures answers { Answers self.old self.new result }
+        ensures fed { self.new.at + length self.new.kept ≡ self.old.at + length self.old.kept }
         ensures few { result ≡ Ok None → length self.new.kept < 65536 }
     {
         if let Some(fault) = self.fault {
@@ -109,6 +110,7 @@ impl Decoder {
         requires { self.old.at + length self.old.kept < 2 ^ 64 }
         ensures answers { result ≡ passing_at self.old (reading self.old) }
         ensures moves { self.new ≡ after self.old (reading self.old) }
+        ensures fed { self.new.at + length self.new.kept ≡ self.old.at + length self.old.kept }
         ensures few { result ≡ Ok None → length self.new.kept < 65536 }
     {
         if let Some(fault) = self.fault {
