@@ -1,3 +1,5 @@
 pub mod Seen
 pub mod Text
+pub mod Names
+pub mod Listing
 pub mod Outcome

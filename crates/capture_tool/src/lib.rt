@@ -2,6 +2,8 @@
 #![tactic(auto)]
 
 mod check;
+mod line;
+mod names;
 mod scan;
 mod seen;
 mod text;

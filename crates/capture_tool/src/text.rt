@@ -20,6 +20,28 @@ pub fn put_number(out: &mut Vec<u8>, number: u64) -> Result<(), Memory>
     put(out, buffer.format(number).as_bytes())
 }
 
+/// A text and a number.
+pub fn put_field(out: &mut Vec<u8>, name: &[u8], number: u64) -> Result<(), Memory>
+    ensures { OnOk result (out.new.items ≡ out.old.items ++ (name.now ++ decimal number)) }
+{
+    put(out, name)?;
+    put_number(out, number)
+}
+
+/// Two texts, each with a number behind it.
+pub fn put_pair(
+    out: &mut Vec<u8>,
+    name: &[u8],
+    number: u64,
+    then: &[u8],
+    next: u64,
+) -> Result<(), Memory>
+    ensures { OnOk result (out.new.items ≡ out.old.items ++ (name.now ++ (decimal number ++ (then.now ++ decimal next)))) }
+{
+    put_field(out, name, number)?;
+    put_field(out, then, next)
+}
+
 fn why_text(why: Why) -> &'static [u8]
     ensures { result.now ≡ why_text why }
 {
