@@ -51,27 +51,44 @@ counts_of items = record { packets = length items; canonical = count_by (λ item
 abbrev pub seen_of : List ℕ → Seen
 seen_of bytes = record { counts = counts_of (items_of bytes); fault = fault_of bytes }
 
--- a decoder that was fed these bytes, has no fault, and has counted its packets
-pub record Scanned (fed : List ℕ) (d : Stream) (counts : Counts) : Type 0 where
+-- a decoder that was fed these bytes and has no fault; P stands of its packets so far
+pub record Scanned (P : List Placed → Type 0) (fed : List ℕ) (d : Stream) : Type 0 where
   pub done : List Placed
   pub decoded : Decoded fed done d.at d.kept
   pub faultless : d.fault ≡ None
-  pub counted : counts ≡ counts_of done
+  pub stands : P done
 
 -- it has no whole packet left
-pub record Drained (fed : List ℕ) (d : Stream) (counts : Counts) : Type 0 where
-  pub scanned : Scanned fed d counts
+pub record Drained (P : List Placed → Type 0) (fed : List ℕ) (d : Stream) : Type 0 where
+  pub scanned : Scanned P fed d
   pub empty : packet_read d.kept ≡ Ok None
 
--- whatever follows these bytes, the capture has this fault, and so many packets before it
-pub record Stopped (fed : List ℕ) (counts : Counts) (fault : Fault) : Type 0 where
+-- whatever follows these bytes, the capture has this fault, and P stands of the packets before it
+pub record Stopped (P : List Placed → Type 0) (fed : List ℕ) (fault : Fault) : Type 0 where
+  pub done : List Placed
+  pub items : (more : List ℕ) → (capture_of (fed ++ more)).items ≡ done
   pub faulty : (more : List ℕ) (long : Bool) → fault_within long (capture_of (fed ++ more)).fault ≡ Some fault
-  pub counted : (more : List ℕ) → counts ≡ counts_of (capture_of (fed ++ more)).items
+  pub stands : P done
 
 -- what passing all packets that are there leaves
-abbrev pub Leaves : List ℕ → Stream → Counts → Option Fault → Type 0
-Leaves fed d counts None = Drained fed d counts
-Leaves fed d counts (Some fault) = Stopped fed counts fault
+abbrev pub Leaves : (List Placed → Type 0) → List ℕ → Stream → Option Fault → Type 0
+Leaves P fed d None = Drained P fed d
+Leaves P fed d (Some fault) = Stopped P fed fault
+
+-- whatever follows these bytes, the capture begins with packets of which P stands
+pub record Began (P : List Placed → Type 0) (fed : List ℕ) : Type 0 where
+  pub done : List Placed
+  pub begins : (more : List ℕ) → (rest : List Placed) × ((capture_of (fed ++ more)).items ≡ done ++ rest)
+  pub stands : P done
+
+-- these are the counts of the packets so far
+abbrev pub Counted : Counts → List Placed → Type 0
+Counted counts done = counts ≡ counts_of done
+
+-- a capture has this fault, and P stands of its packets
+pub record Finds (P : List Placed → Type 0) (bytes : List ℕ) (fault : Option Fault) : Type 0 where
+  pub stands : P (items_of bytes)
+  pub tells : fault ≡ fault_of bytes
 
 -- the counts stay small
 pub record Bounded (d : Stream) (counts : Counts) : Type 0 where

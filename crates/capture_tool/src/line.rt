@@ -1,6 +1,6 @@
 //! The line of a packet.
 //!
-//! Rule: docs/scripts-and-reports.md, "Listing".
+//! Rule: specs/Listing.antt.
 ghost use Rattle.std.specs.Prelude.{◌≡◌, ◌<◌, ◌^◌, ◌++◌, codes, decimal, length, OnOk};
 ghost use Rattle.std.specs.List.{sum_by};
 ghost use Rattle.capture_tool.specs.Names.{◌&◌, cmd_op_text, ctrl_op_text, ctrl_status_text, status_code_text};

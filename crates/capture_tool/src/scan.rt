@@ -3,7 +3,7 @@ ghost use Rattle.std.specs.Prelude.{◌≡◌, ◌≢◌, ◌+◌, ◌*◌, ◌<
 ghost use Rattle.std.specs.Io.KnownBytes.{Consumes, IsAtEnd};
 ghost use Rattle.rf_outside.specs.Causes.{Rose};
 ghost use Rattle.chdr_stream.specs.Stream.{fed_with};
-ghost use Rattle.capture_tool.specs.Seen.{Bounded, Drained, Leaves, Scanned, left_fault, limit, one_more, seen_of};
+ghost use Rattle.capture_tool.specs.Seen.{Bounded, Counted, Leaves, Scanned, left_fault, limit, one_more, seen_of};
 
 use crate::seen::{Counts, Fault, Seen, Stop, Why, why_of};
 use chdr_stream::{Decoder, StreamFault};
@@ -29,9 +29,9 @@ fn one_more(counts: Counts, canonical: bool) -> Counts
 /// Passes the packets that are there, and counts them; the fault where there is one.
 fn drain(decoder: &mut Decoder, counts: &mut Counts) -> Option<Fault>
     requires { Bounded decoder.old counts.old }
-    ensures leaves { (fed : List ℕ) → Scanned fed decoder.old counts.old → Leaves fed decoder.new counts.new result }
+    ensures leaves { (fed : List ℕ) →
+        Scanned (Counted counts.old) fed decoder.old → Leaves (Counted counts.new) fed decoder.new result }
     ensures bounded { Bounded decoder.new counts.new }
-    ensures place { decoder.new.at + length decoder.new.kept ≡ decoder.old.at + length decoder.old.kept }
 {
     loop {
         match decoder.pass() {
@@ -60,9 +60,8 @@ fn left_fault(decoder: &Decoder) -> Option<Fault>
 }
 
 /// What is seen where the capture ends at the bytes that were fed.
-fn ended(decoder: &Decoder, counts: Counts) -> Seen
-    requires { Bounded decoder.now counts }
-    ensures { (fed : List ℕ) → Drained fed decoder.now counts → result ≡ seen_of fed }
+pub fn ended(decoder: &Decoder, counts: Counts) -> Seen
+    ensures { result ≡ record { counts = counts; fault = left_fault decoder.now } }
 {
     Seen {
         counts,
