@@ -1,31 +1,20 @@
 -- Reading a source piece by piece, and what is found in the end.
-use Rattle.std.proofs.Common.{append_assoc, ◌≡◌, ◌≢◌, ℕ, zero, suc, ◌+◌, ◌-◌, ◌*◌, ◌<◌, ◌≤◌, Bool, true, false, cond, ltb, eqb, List, [], ◌∷◌, ◌++◌, length, take, drop, Option, None, Some, Result, Ok, Err, refl, sym, ap, subst, ◌∙◌, arith}
+use Rattle.std.proofs.Common.{append_assoc, ◌≡◌, ℕ, ◌+◌, ◌<◌, ◌≤◌, List, [], ◌++◌, length, take, Option, None, Some, refl, sym, ap, subst, ◌∙◌, arith}
 use Rattle.std.specs.Prelude.{IfSome}
-use Rattle.std.specs.List.{sum_by, count_by}
 use Rattle.std.specs.Io.KnownBytes.{Consumes, IsAtEnd}
-use Rattle.std.proofs.lemmas.Bool.{lt-ltb, le-ltb, eqb-true, eqb-false}
-use Rattle.std.proofs.lemmas.List.{append-nil, length-append, length-take, length-drop, take_all}
-use Rattle.std.proofs.lemmas.List.Sums.{sum_by-append, sum_by-cons}
-use Rattle.chdr_packets.specs.Grammar.{is_plain}
-use Rattle.chdr_packets.specs.Reading.{packet_read}
+use Rattle.std.proofs.lemmas.List.{append-nil, length-append, length-take}
 use Rattle.chdr_packets.specs.declared.fault.PacketFault.{PacketFault}
-use Rattle.chdr_packets.specs.declared.packet.Packet.{Packet}
-use Rattle.chdr_packets.proofs.PacketLemmas.{found, read-take, nothing_there}
+use Rattle.chdr_packets.proofs.PacketLemmas.{nothing_there}
 use Rattle.chdr_stream.specs.declared.placed.Placed.{Placed}
-use Rattle.chdr_stream.specs.declared.placed.Passed.{Passed}
-use Rattle.chdr_stream.specs.declared.placed.StreamFault.{StreamFault}
-use Rattle.chdr_stream.specs.declared.placed.StreamFault.TheVariants as streams
-use Rattle.chdr_stream.specs.Capture.{Reason, bad, truncated, Capture, capture_from, capture_of, Decoded}
-use Rattle.chdr_stream.specs.Stream.{Stream, reading, passing_at, after, fed_with}
-use Rattle.chdr_stream.proofs.StreamLemmas.{decoded_none, decoded_fed, decoded_next, decoded_bad, decoded_cut, decoded_whole}
+use Rattle.chdr_stream.specs.Stream.{Stream, fed_with}
+use Rattle.chdr_stream.proofs.StreamLemmas.{decoded_none, decoded_fed}
 use Rattle.capture_tool.specs.declared.seen.Counts.{Counts}
 use Rattle.capture_tool.specs.declared.seen.Seen.{Seen}
 use Rattle.capture_tool.specs.declared.seen.Fault.{Fault}
-use Rattle.capture_tool.specs.declared.seen.Why.TheVariants as whys
-use Rattle.capture_tool.specs.Seen.{limit, why_of, fault_within, items_of, fault_of, counts_of, seen_of, Scanned, Drained, Stopped, Began, Counted, Finds, Bounded, one_more, left_fault}
+use Rattle.capture_tool.specs.Seen.{limit, items_of, counts_of, seen_of, Scanned, Drained, Stopped, Began, Counted, Finds, Bounded, left_fault}
 use Rattle.capture_tool.proofs.ScanLemmas.{at_of, counted, too_long, Begins, began, begins_at, ended_found, stopped_found, long_found}
 
-abbrev seen : Counts → Option Fault → Seen
+abbrev pub seen : Counts → Option Fault → Seen
 seen counts fault = record { counts = counts; fault = fault }
 
 pub told_at : (a b : Option (List ℕ)) (fed : List ℕ) (P : List ℕ → Type 0) → Consumes a b fed → ((rest : List ℕ) → P (fed ++ rest)) → IfSome a P
@@ -151,6 +140,9 @@ pub fed_left : (P P3 : List Placed → Type 0) (old now : Option (List ℕ)) (d2
     → IfSome old (λ bytes. Begins P3 bytes)
 fed_left P P3 old now d2 room f leaves =
     told_at old now f.fed (λ bytes. Begins P3 bytes) f.came (λ rest. begins_at P3 f.fed rest (omega (arith, f.left)) (leaves f.fed f.scanned))
+
+pub seen_also : (s : Seen) (counts : Counts) (a b : Fault) → s ≡ seen counts (Some a) → a ≡ b → s ≡ seen counts (Some b)
+seen_also s counts a b e same = cc
 
 -- what check tells is the counts and the fault that are found
 pub seen_as : (old : Option (List ℕ)) (counts : Counts) (fault : Option Fault) (s : Seen) → s ≡ record { counts = counts; fault = fault } → Sees (Counted counts) old fault

@@ -1,28 +1,25 @@
 -- Passing the packets of a capture piece by piece.
-use Rattle.std.proofs.Common.{append_assoc, ◌≡◌, ◌≢◌, ℕ, zero, suc, ◌+◌, ◌-◌, ◌*◌, ◌<◌, ◌≤◌, Bool, true, false, cond, ltb, eqb, List, [], ◌∷◌, ◌++◌, length, take, drop, Option, None, Some, Result, Ok, Err, refl, sym, ap, subst, ◌∙◌, arith}
-use Rattle.std.specs.Prelude.{IfSome}
-use Rattle.std.specs.List.{sum_by, count_by}
-use Rattle.std.specs.Io.KnownBytes.{Consumes, IsAtEnd}
+use Rattle.std.proofs.Common.{◌≡◌, ◌≢◌, ℕ, zero, suc, ◌+◌, ◌-◌, ◌<◌, ◌≤◌, Bool, true, false, cond, ltb, eqb, List, [], ◌∷◌, ◌++◌, length, take, drop, Option, None, Some, Result, Ok, Err, refl, sym, ap, subst, ◌∙◌, arith}
+use Rattle.std.specs.List.{count_by}
 use Rattle.std.proofs.lemmas.Bool.{lt-ltb, le-ltb, eqb-true, eqb-false}
-use Rattle.std.proofs.lemmas.List.{append-nil, length-append, length-take, length-drop, take_all}
+use Rattle.std.proofs.lemmas.List.{append-nil, length-append, length-drop, take_all}
 use Rattle.std.proofs.lemmas.List.Sums.{sum_by-append, sum_by-cons}
 use Rattle.chdr_packets.specs.Grammar.{is_plain}
 use Rattle.chdr_packets.specs.Reading.{packet_read}
 use Rattle.chdr_packets.specs.declared.fault.PacketFault.{PacketFault}
 use Rattle.chdr_packets.specs.declared.packet.Packet.{Packet}
-use Rattle.chdr_packets.proofs.PacketLemmas.{found, read-take, nothing_there}
+use Rattle.chdr_packets.proofs.PacketLemmas.{found, read-take}
 use Rattle.chdr_stream.specs.declared.placed.Placed.{Placed}
 use Rattle.chdr_stream.specs.declared.placed.Passed.{Passed}
 use Rattle.chdr_stream.specs.declared.placed.StreamFault.{StreamFault}
 use Rattle.chdr_stream.specs.declared.placed.StreamFault.TheVariants as streams
-use Rattle.chdr_stream.specs.Capture.{Reason, bad, truncated, Capture, capture_from, capture_of, Decoded}
-use Rattle.chdr_stream.specs.Stream.{Stream, reading, passing_at, after, fed_with}
-use Rattle.chdr_stream.proofs.StreamLemmas.{decoded_none, decoded_fed, decoded_next, decoded_bad, decoded_cut, decoded_whole}
+use Rattle.chdr_stream.specs.Capture.{Reason, bad, truncated, Capture, capture_from, capture_of}
+use Rattle.chdr_stream.specs.Stream.{Stream, reading, passing_at, after}
+use Rattle.chdr_stream.proofs.StreamLemmas.{decoded_next, decoded_bad, decoded_cut, decoded_whole}
 use Rattle.capture_tool.specs.declared.seen.Counts.{Counts}
-use Rattle.capture_tool.specs.declared.seen.Seen.{Seen}
 use Rattle.capture_tool.specs.declared.seen.Fault.{Fault}
 use Rattle.capture_tool.specs.declared.seen.Why.TheVariants as whys
-use Rattle.capture_tool.specs.Seen.{limit, why_of, fault_within, items_of, fault_of, counts_of, seen_of, Scanned, Drained, Stopped, Began, Counted, Finds, Bounded, one_more, left_fault}
+use Rattle.capture_tool.specs.Seen.{limit, why_of, fault_within, items_of, counts_of, Scanned, Drained, Stopped, Began, Counted, Finds, Bounded, one_more, left_fault}
 
 -- ---- one packet is passed
 
@@ -40,7 +37,7 @@ at_of at kept fault = record { at = at; kept = kept; fault = fault }
 abbrev pub gone : Passed → Result (Option Passed) StreamFault
 gone passed = Ok (Some passed)
 
-abbrev nothing : Result (Option Passed) StreamFault
+abbrev pub nothing : Result (Option Passed) StreamFault
 nothing = Ok None
 
 abbrev pub stands : ℕ → PacketFault → Result (Option Passed) StreamFault

@@ -1,5 +1,5 @@
 -- The listing of a capture: a line for each packet, and the last line.
-use Rattle.std.specs.Prelude.{ℕ, codes, decimal, Bool, true, false, List, ◌++◌, length, Option, None, Some}
+use Rattle.std.specs.Prelude.{ℕ, codes, decimal, Bool, true, false, List, length, Option, None, Some}
 use Rattle.std.specs.List.{flat_map, sum_by}
 use Rattle.chdr_words.specs.declared.status.Status.{Status}
 use Rattle.chdr_words.specs.declared.command.Command.{Command}

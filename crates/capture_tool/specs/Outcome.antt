@@ -1,8 +1,6 @@
 -- Exit statuses of the two forms that read a capture, and their causes.
-use Rattle.std.specs.Prelude.{◌≡◌, ℕ, ◌≤◌, ◌⊎◌, List, Option, None, Some, IfSome}
-use Rattle.std.specs.Io.KnownBytes.{IsAtEnd}
-use Rattle.rf_outside.specs.Bytes.{Adds, AddsPrefix}
-use Rattle.rf_outside.specs.Causes.{Rose}
+use Rattle.std.specs.Prelude.{◌≡◌, ℕ, List, Option, None, Some}
+use Rattle.rf_outside.specs.Bytes.{Adds}
 use Rattle.capture_tool.specs.declared.seen.Fault.{Fault}
 use Rattle.capture_tool.specs.Seen.{fault_of}
 

@@ -1,5 +1,5 @@
 -- What a capture shows within its first 2^30 bytes: its packets, and where and why it ends early.
-use Rattle.std.specs.Prelude.{◌≡◌, ℕ, ◌+◌, ◌*◌, ◌≤◌, ◌<◌, ◌==◌, Bool, nat_lt, if◌then◌else◌, List, ◌++◌, length, take, Option, None, Some, Ok}
+use Rattle.std.specs.Prelude.{◌≡◌, ℕ, ◌+◌, ◌*◌, ◌≤◌, ◌==◌, Bool, nat_lt, if◌then◌else◌, List, ◌++◌, length, take, Option, None, Some, Ok}
 use Rattle.std.specs.List.{count_by}
 use Rattle.chdr_words.specs.declared.fault.MsgFault.TheVariants as messages
 use Rattle.chdr_packets.specs.declared.fault.PacketFault.{PacketFault}

@@ -1,7 +1,6 @@
 -- The lines of a listing.
 use Rattle.std.specs.Prelude.{ℕ, codes, decimal, List, ◌++◌, Option, None, Some}
 use Rattle.capture_tool.specs.declared.seen.Counts.{Counts}
-use Rattle.capture_tool.specs.declared.seen.Seen.{Seen}
 use Rattle.capture_tool.specs.declared.seen.Fault.{Fault}
 use Rattle.capture_tool.specs.declared.seen.Why.{Why}
 use Rattle.capture_tool.specs.declared.seen.Why.TheVariants.{ReservedType, BadLength, Truncated, BadStatusLength, BadCommandLength, BadControlLength, BadManagement, TooLong}

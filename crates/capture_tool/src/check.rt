@@ -2,12 +2,12 @@ ghost use Rattle.std.specs.Prelude.{◌≡◌, ◌⊎◌, ◌++◌, [], ◌≤�
 ghost use Rattle.std.specs.Io.KnownBytes.{IsAtEnd};
 ghost use Rattle.rf_outside.specs.Bytes.{Adds, AddsPrefix};
 ghost use Rattle.rf_outside.specs.Causes.{Rose};
-ghost use Rattle.capture_tool.specs.Outcome.{Told, status_of};
+ghost use Rattle.capture_tool.specs.Outcome.{Told};
 ghost use Rattle.capture_tool.specs.Seen.{seen_of};
 ghost use Rattle.capture_tool.specs.Text.{check_text, checked};
 
 use crate::scan::look;
-use crate::seen::{Seen, Stop};
+use crate::seen::{Seen, Stop, status_of};
 use crate::text::put_check;
 use rf_base::Memory;
 use rf_outside::{Sink, Source, write_all};
@@ -19,15 +19,6 @@ fn check_line(alloc: Global, seen: &Seen) -> Result<Vec<u8>, Memory>
     let mut text = Vec::new(alloc);
     put_check(&mut text, seen.counts, seen.fault)?;
     Ok(text)
-}
-
-fn status_of(seen: &Seen) -> u8
-    ensures { result ≡ status_of seen.now.fault }
-{
-    match seen.fault {
-        None => 0,
-        Some(_) => 7,
-    }
 }
 
 /// Counts the packets of a capture and the canonical ones, and writes one line.
@@ -58,5 +49,5 @@ pub fn check_capture<S: Source, K: Sink>(alloc: Global, src: &mut S, out: &mut K
     if write_all(out, text.as_slice()).is_err() {
         return 4;
     }
-    status_of(&seen)
+    status_of(seen.fault)
 }

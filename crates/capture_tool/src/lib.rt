@@ -3,13 +3,16 @@
 
 mod check;
 mod line;
+mod list;
 mod names;
 mod scan;
 mod seen;
+mod show;
 mod text;
 
 pub use check::check_capture;
 pub use seen::{Counts, Fault, Seen, Why};
+pub use show::show_capture;
 
 #[cfg(test)]
 mod tests;

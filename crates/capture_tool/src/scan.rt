@@ -11,11 +11,11 @@ use rf_outside::Source;
 use std::alloc::Global;
 
 /// The bytes of a capture that are looked at.
-const LIMIT: usize = 1 << 30;
+pub const LIMIT: usize = 1 << 30;
 
-const PIECE: usize = 1 << 16;
+pub const PIECE: usize = 1 << 16;
 
-fn one_more(counts: Counts, canonical: bool) -> Counts
+pub fn one_more(counts: Counts, canonical: bool) -> Counts
     requires packets { counts.packets < 2 ^ 32 }
     requires less { counts.canonical ≤ counts.packets }
     ensures { result ≡ one_more counts canonical }
@@ -70,7 +70,11 @@ pub fn ended(decoder: &Decoder, counts: Counts) -> Seen
 }
 
 /// The next bytes of the source, at most so many.
-fn read_piece<S: Source>(src: &mut S, piece: &mut [u8; 65536], most: usize) -> Result<usize, Stop>
+pub fn read_piece<S: Source>(
+    src: &mut S,
+    piece: &mut [u8; 65536],
+    most: usize,
+) -> Result<usize, Stop>
     requires some { 0 < most }
     requires room { most ≤ 65536 }
     ensures bytes { IfOk result (λ n. Consumes (S.left src.old) (S.left src.new) (take n piece.new)) }
@@ -86,7 +90,7 @@ fn read_piece<S: Source>(src: &mut S, piece: &mut [u8; 65536], most: usize) -> R
     }
 }
 
-fn faulty(counts: Counts, fault: Fault) -> Seen
+pub fn faulty(counts: Counts, fault: Fault) -> Seen
     ensures { result ≡ record { counts = counts; fault = Some fault } }
 {
     Seen {
@@ -95,8 +99,17 @@ fn faulty(counts: Counts, fault: Fault) -> Seen
     }
 }
 
+pub fn too_long() -> Fault
+    ensures { result ≡ record { at = limit; why = Why.TooLong } }
+{
+    Fault {
+        at: LIMIT as u64,
+        why: Why::TooLong,
+    }
+}
+
 /// Feeds the first bytes of the piece.
-fn feed_piece(decoder: &mut Decoder, piece: &[u8; 65536], count: usize) -> Result<(), Stop>
+pub fn feed_piece(decoder: &mut Decoder, piece: &[u8; 65536], count: usize) -> Result<(), Stop>
     requires within { count ≤ 65536 }
     requires place { decoder.old.at + length decoder.old.kept ≤ limit }
     ensures ok { OnOk result (decoder.new ≡ fed_with decoder.old (take count piece.now)) }
@@ -139,9 +152,5 @@ pub fn look<S: Source>(alloc: Global, src: &mut S) -> Result<Seen, Stop>
     if more == 0 {
         return Ok(ended(&decoder, counts));
     }
-    let long = Fault {
-        at: LIMIT as u64,
-        why: Why::TooLong,
-    };
-    Ok(faulty(counts, long))
+    Ok(faulty(counts, too_long()))
 }

@@ -1,8 +1,12 @@
 ghost use Rattle.std.specs.Prelude.{◌≡◌};
+ghost use Rattle.capture_tool.specs.Outcome.{status_of};
 ghost use Rattle.capture_tool.specs.Seen.{why_of};
+ghost use Rattle.capture_tool.specs.declared.seen.Stop.TheVariants as stops;
 
 use chdr_packets::PacketFault;
 use chdr_words::MsgFault;
+use rf_base::Memory;
+use std::alloc::AllocError;
 
 /// Why a capture ends before its bytes do.
 #[derive(Clone, Copy, Debug, PartialEq, Eq)]
@@ -47,6 +51,33 @@ pub enum Stop {
     Memory,
 }
 
+impl From<Memory> for Stop {
+    ghost from_gives = { λ _ e. e ≡ stops.Memory };
+
+    fn from(_: Memory) -> Stop {
+        Stop::Memory
+    }
+}
+
+impl From<AllocError> for Stop {
+    ghost from_gives = { λ _ e. e ≡ stops.Memory };
+
+    fn from(_: AllocError) -> Stop {
+        Stop::Memory
+    }
+}
+
+/// The status of a capture that was told whole.
+pub fn status_of(fault: Option<Fault>) -> u8
+    ensures { result ≡ status_of fault }
+{
+    match fault {
+        None => 0,
+        Some(_) => 7,
+    }
+}
+
+/// The reason of a packet's fault; reading never finds want of memory.
 pub fn why_of(fault: PacketFault) -> Why
     ensures { result ≡ why_of fault }
 {

@@ -1,5 +1,6 @@
 //! Lines of text, piece by piece.
-ghost use Rattle.std.specs.Prelude.{◌≡◌, ◌++◌, codes, decimal, OnOk, List};
+ghost use Rattle.std.specs.Prelude.{◌≡◌, ◌++◌, codes, decimal, None, OnOk, List};
+ghost use Rattle.capture_tool.specs.Listing.{last_line};
 ghost use Rattle.capture_tool.specs.Text.{check_text, counts_line, fault_line, why_text};
 
 use crate::seen::{Counts, Fault, Why};
@@ -96,6 +97,23 @@ pub fn put_check(out: &mut Vec<u8>, counts: Counts, fault: Option<Fault>) -> Res
 {
     match fault {
         None => put_counts(out, counts),
+        Some(fault) => put_fault(out, fault),
+    }
+}
+
+fn put_packets(out: &mut Vec<u8>, packets: u64) -> Result<(), Memory>
+    ensures { OnOk result (out.new.items ≡ out.old.items ++ last_line packets None) }
+{
+    put_field(out, b"packets ", packets)?;
+    put(out, b"\n")
+}
+
+/// The last line that show writes.
+pub fn put_last(out: &mut Vec<u8>, packets: u64, fault: Option<Fault>) -> Result<(), Memory>
+    ensures { OnOk result (out.new.items ≡ out.old.items ++ last_line packets fault) }
+{
+    match fault {
+        None => put_packets(out, packets),
         Some(fault) => put_fault(out, fault),
     }
 }

@@ -1,11 +1,9 @@
-use Rattle.std.proofs.Common.{◌≡◌, ◌∙◌, sym, ap, List, ℕ, Some, Ok, Err, subst}
+use Rattle.std.proofs.Common.{◌≡◌, ◌∙◌, sym, ap, Ok, Err, subst}
 use Rattle.chdr_stream.specs.Stream.{reading, passing_at}
-use Rattle.chdr_stream.specs.declared.placed.StreamFault.TheVariants as streams
 use Rattle.chdr_stream.specs.declared.placed.Placed.{Placed}
 use Rattle.capture_tool.specs.Seen.{Stopped, Counted, one_more}
-use Rattle.capture_tool.specs.declared.seen.Fault.{Fault}
 use Rattle.capture_tool.specs.declared.seen.Why.{Why}
-use Rattle.capture_tool.proofs.ScanLemmas.{gone, stands, placed, Passing, passing, counted_next, scanned_next, BoundedNext, bounded_next, stopped}
+use Rattle.capture_tool.proofs.ScanLemmas.{gone, stands, placed, passing, counted_next, scanned_next, bounded_next, stopped}
 use Rattle.capture_tool.proofs.scan.drain.Goals as goal
 
 pub loop-passed-smaller : goal.loop-passed-smaller

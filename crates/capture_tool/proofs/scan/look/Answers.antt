@@ -1,7 +1,7 @@
-use Rattle.std.proofs.Common.{◌≡◌, ◌∙◌, ◌+◌, ◌<◌, ◌≤◌, ◌-◌, refl, sym, subst, ℕ, List, length, take, arith, Some}
+use Rattle.std.proofs.Common.{◌≡◌, ◌-◌, refl, length, take, arith, Some}
 use Rattle.capture_tool.specs.Seen.{Counted, left_fault}
 use Rattle.capture_tool.proofs.ScanLemmas.{too_long}
-use Rattle.capture_tool.proofs.LookLemmas.{Looking, Fed, piece_fits, looking_none, looking_bounded, looking_fed, looking_more, looking_stopped, looking_ended, looking_long, seen_as}
+use Rattle.capture_tool.proofs.LookLemmas.{Fed, piece_fits, looking_none, looking_bounded, looking_fed, looking_more, looking_stopped, looking_ended, looking_long, seen_also, seen_as}
 use Rattle.capture_tool.proofs.scan.look.Goals as goal
 
 pub loop-room-init : goal.loop-room-init
@@ -55,6 +55,6 @@ returns-then-more-eq0-clause-seen g c =
 pub returns-clause-seen : goal.returns-clause-seen
 returns-clause-seen g c =
     let len : length (take c.in_ok-more.more c.read_piece-2.new.piece) ≡ c.in_ok-more.more = piece_fits c.read_piece-2.new.piece c.in_ok-more.more 1 c.read_piece-2.array_long c.in_ok-more.ensures.bound (omega arith) in
-    seen_as (g.S.Source.left c.args.src.now) c.loop-room.counts (Some too_long) c.faulty-2.result c.faulty-2.ensures
+    seen_as (g.S.Source.left c.args.src.now) c.loop-room.counts (Some too_long) c.faulty-2.result (seen_also c.faulty-2.result c.loop-room.counts c.too_long.result too_long c.faulty-2.ensures c.too_long.ensures)
     (looking_long (Counted c.loop-room.counts) (g.S.Source.left c.args.src.now) (g.S.Source.left c.loop-room.src) (g.S.Source.left c.read_piece-2.new.src) c.loop-room.decoder c.loop-room.counts c.loop-room.room
     (take c.in_ok-more.more c.read_piece-2.new.piece) c.loop-room.invariant.looking (omega (arith, c.loop-room-test.false)) c.in_ok-more.ensures.bytes (omega (arith, len, c.if-more-eq0.false)))
