@@ -1,8 +1,7 @@
 -- Statuses and commands: what is read is spelled so, and what is spelled so is read.
-use Rattle.std.proofs.Common.{eq-eqb, ◌≡◌, ℕ, zero, suc, ◌+◌, ◌^◌, ◌<◌, ◌≤◌, eqb, cond, List, length, Result, Ok, Err, refl, sym, ap, subst, ◌∙◌, arith}
+use Rattle.std.proofs.Common.{◌≡◌, ℕ, zero, suc, ◌<◌, ◌≤◌, List, length, Ok, refl, sym, ap, subst, arith}
 use Rattle.std.proofs.lemmas.Bool.Decides.{nat_tests}
 use Rattle.chdr_words.specs.Field.{field, word_at}
-use Rattle.chdr_words.specs.declared.epid.Epid.{Epid}
 use Rattle.chdr_words.specs.declared.status.Status.{Status}
 use Rattle.chdr_words.specs.declared.status.StatusCode.{StatusCode}
 use Rattle.chdr_words.specs.declared.status.StatusCode.TheVariants as codes

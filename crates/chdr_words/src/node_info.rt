@@ -28,7 +28,7 @@ pub struct NodeInfo {
 ///     | value             | address   |
 ///     +-------------------+-----------+
 ///
-/// Rule: docs/wire-format.md, "Operations".
+/// Rule: docs/wire-format.md, "Configuration".
 #[derive(Clone, Copy, Debug, PartialEq, Eq)]
 pub struct Cfg {
     pub addr: u16,
