@@ -1,12 +1,12 @@
 -- What bytes are, by what the reader of JSON answers.
-use Rattle.std.proofs.Common.{◌≡◌, ℕ, ◌+◌, ◌<◌, ◌≤◌, List, [], ◌∷◌, ◌++◌, length, refl, sym, ◌∙◌, ap, subst, arith, append-nil, length-append}
+use Rattle.std.proofs.Common.{◌≡◌, ℕ, ◌<◌, ◌≤◌, List, ◌++◌, length, sym, ◌∙◌, ap, subst, arith, append-nil, length-append}
 use Rattle.std.specs.Prelude.{Option, None, Some, option_and_then, IfSome}
 use Rattle.std.specs.Str.{IsUtf8}
 use Rattle.std.specs.Io.KnownBytes.{Consumes, IsAtEnd}
 use Rattle.serde_json.specs.Data.{Data}
 use Rattle.serde_json.specs.Read.{read}
 use Rattle.rfnoc_cli.specs.declared.straight.Straight.{Straight}
-use Rattle.rfnoc_cli.specs.Form.{IsScript, IsRefused, form_of}
+use Rattle.rfnoc_cli.specs.Form.{IsRefused, form_of}
 use Rattle.rfnoc_cli.specs.TopCall.{IsReading}
 
 pub too_long : (bytes : List ℕ) → 1048576 < length bytes → IsRefused bytes

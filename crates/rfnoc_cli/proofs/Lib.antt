@@ -6,3 +6,4 @@ pub mod NextLemmas
 pub mod UnderWay
 pub mod StraightLemmas
 pub mod InputLemmas
+pub mod OutcomeLemmas

@@ -1,10 +1,10 @@
 -- What an event, or handing out a packet, does to a present of one stream over one link.
 use Rattle.std.proofs.Common.{◌≡◌, ℕ, ◌+◌, ◌-◌, ◌*◌, ◌<◌, ◌≤◌, List, [], ◌∷◌, ◌++◌, length, drop, Bool, true, false, zero, suc, refl, sym, ◌∙◌, ap, subst, arith, length-append, append_assoc, append-nil}
-use Rattle.std.specs.Prelude.{Option, None, Some, IsTrue, MatchOption, slice_get, ◌&&◌}
+use Rattle.std.specs.Prelude.{Option, None, Some, IsTrue, MatchOption, slice_get}
 use Rattle.std.proofs.lemmas.Bool.Decides.{nat_tests}
 use Rattle.chdr_packets.specs.declared.packet.Packet.{Packet}
 use Rattle.fabric_core.specs.Machine.{State, can_enter, can_see, has_packet, numbered}
-use Rattle.fabric_core.specs.Present.{Present, Stand, may, goes_on, enters_now, hops_now, hands, stand_at, stand_sends}
+use Rattle.fabric_core.specs.Present.{Present, Stand, may, goes_on, enters_now, hops_now, hands}
 use Rattle.fabric_core.specs.NetValue.{NetValue, Stands, doable}
 use Rattle.fabric_core.specs.declared.event.Event.{Event}
 use Rattle.fabric_core.specs.declared.event.Event.TheVariants.{Enter, Hop, Seen}

@@ -1,5 +1,5 @@
 -- What one thread does next, read from the present.
-use Rattle.std.proofs.Common.{◌≡◌, ℕ, ◌+◌, ◌-◌, ◌<◌, ◌≤◌, List, [], ◌∷◌, ◌++◌, length, map, Bool, true, false, zero, suc, refl, sym, ◌∙◌, ap, subst, arith}
+use Rattle.std.proofs.Common.{◌≡◌, ℕ, ◌-◌, List, [], ◌∷◌, length, map, Bool, true, false, refl, sym, ◌∙◌, ap, subst, arith}
 use Rattle.std.specs.Prelude.{Option, None, Some, IfSome, IsTrue, nat_lt, nat_le, ◌&&◌, cond}
 use Rattle.std.specs.List.{find, range_with_len}
 use Rattle.std.specs.Option.{option_or}
@@ -8,7 +8,7 @@ use Rattle.std.proofs.lemmas.List.Folds.{find-append}
 use Rattle.fabric_core.specs.Machine.{State, stream_at, can_see}
 use Rattle.fabric_core.specs.Present.{Present, may, stand_at}
 use Rattle.fabric_core.specs.NetValue.{NetValue, Stands, doable, chosen_now}
-use Rattle.fabric_core.specs.Runs.{next_of, first_of, chosen, has_unseen, sees_all, candidates}
+use Rattle.fabric_core.specs.Runs.{next_of, first_of, chosen, has_unseen, candidates}
 use Rattle.fabric_core.specs.declared.event.Event.{Event}
 use Rattle.fabric_core.specs.declared.event.Event.TheVariants.{Enter, Hop, Seen}
 use Rattle.rfnoc_cli.specs.Run.{IsOne, given_of, waiting_of, given_at}

@@ -9,7 +9,7 @@ use Rattle.fabric_core.specs.declared.tally.Tally.{Tally}
 use Rattle.rfnoc_cli.specs.declared.line.Line.{Line}
 use Rattle.rfnoc_cli.specs.declared.book.Book.{Book}
 use Rattle.rfnoc_cli.specs.declared.straight.Straight.{Straight}
-use Rattle.rfnoc_cli.specs.Report.{◌&◌, stream_text, streams_text, sink_text, sinks_text, book_text, books_text}
+use Rattle.rfnoc_cli.specs.Report.{stream_text, streams_text, sink_text, sinks_text, book_text, books_text}
 
 drop-at : {X : Type 0} (xs : List X) (k : ℕ) (d : X) → k < length xs → drop k xs ≡ get_or xs k d ∷ drop (k + 1) xs
 drop-at xs k d h =

@@ -1,27 +1,22 @@
 -- One thread's run of a straight script, by the laws of the machine.
-use Rattle.std.proofs.Common.{◌≡◌, ℕ, ◌+◌, ◌-◌, ◌≤◌, List, [], ◌∷◌, ◌++◌, length, drop, take, Bool, true, false, refl, sym, ◌∙◌, ap, subst, arith, eq-eqb, length-drop}
-use Rattle.std.specs.Prelude.{Option, None, Some, Result, Ok, Err, IfOk, sum_by, min, ◌^◌}
+use Rattle.std.proofs.Common.{◌≡◌, List, [], ◌∷◌, ◌++◌, length, drop, refl, ◌∙◌, ap, subst, arith, eq-eqb, length-drop}
+use Rattle.std.specs.Prelude.{Result, Ok, Err, IfOk}
 use Rattle.rf_base.specs.declared.memory.Memory.{Memory}
 use Rattle.chdr_packets.specs.declared.packet.Packet.{Packet}
-use Rattle.block_library.specs.Producer.{FitsPlan}
-use Rattle.fabric_core.specs.Machine.{State, Stream, stream_at, queue_at, has_packet, after}
-use Rattle.fabric_core.specs.Present.{stand_at}
+use Rattle.fabric_core.specs.Machine.{State, stream_at, after}
 use Rattle.fabric_core.specs.NetValue.{NetValue, Stands}
-use Rattle.fabric_core.specs.Laws.{IsLawful, KeepsOrder, plain}
-use Rattle.fabric_core.specs.Runs.{IsLegal, IsWhole, IsDrained, after_all, start, end_of, taken_of}
+use Rattle.fabric_core.specs.Laws.{plain}
+use Rattle.fabric_core.specs.Runs.{IsLegal, IsDrained, after_all, start, end_of}
 use Rattle.fabric_core.specs.declared.event.Event.{Event}
 use Rattle.fabric_core.specs.declared.tally.StreamEnd.{StreamEnd}
 use Rattle.fabric_core.specs.declared.tally.StreamEnd.TheVariants.{Drained}
 use Rattle.fabric_core.proofs.RunLaws.{all-lawful, order, rest_drained, drained_all, whole}
 use Rattle.fabric_core.proofs.LawfulLaws.{starts}
 use Rattle.block_library.specs.declared.plan.TxPlan.{TxPlan}
-use Rattle.rfnoc_cli.specs.declared.book.Book.{Book}
 use Rattle.rfnoc_cli.specs.declared.book.RunBook.{RunBook}
 use Rattle.rfnoc_cli.specs.declared.straight.Straight.{Straight}
-use Rattle.rfnoc_cli.specs.Form.{FitsStraight}
-use Rattle.rfnoc_cli.specs.Report.{undrained, undrained_of}
 use Rattle.rfnoc_cli.specs.Run.{IsRunOf, IsOne, IsFresh, given_of, waiting_of}
-use Rattle.rfnoc_cli.specs.TopCall.{plan_of, IsStraightRun, IsPerformed}
+use Rattle.rfnoc_cli.specs.TopCall.{plan_of, IsStraightRun}
 
 -- the front of a legal journal is legal
 legal-front : (w : State) (front rest : List Event) → IsLegal w (front ++ rest) → IsLegal w front

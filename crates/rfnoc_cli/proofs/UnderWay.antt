@@ -1,15 +1,14 @@
 -- One event more of a run that goes on, and its end.
-use Rattle.std.proofs.Common.{◌≡◌, ℕ, ◌+◌, ◌-◌, ◌<◌, ◌≤◌, List, [], ◌∷◌, ◌++◌, length, take, drop, Bool, true, false, zero, suc, refl, sym, ◌∙◌, ap, subst, arith, append_assoc, append-nil, length-drop}
-use Rattle.std.specs.Prelude.{Option, None, Some, Result, Ok, Err, IfOk, nat_lt, cond, IsTrue}
+use Rattle.std.proofs.Common.{◌≡◌, ℕ, ◌+◌, ◌≤◌, List, [], ◌∷◌, ◌++◌, length, take, drop, Bool, true, false, zero, suc, refl, sym, ◌∙◌, ap, subst, arith, append_assoc, append-nil, length-drop}
+use Rattle.std.specs.Prelude.{Option, None, Some, Result, Ok, Err, IfOk, nat_lt}
 use Rattle.rf_base.specs.declared.memory.Memory.{Memory}
 use Rattle.std.proofs.Math.Seq.{take-append_seam, take-length}
 use Rattle.std.proofs.lemmas.List.{take-append-drop, take_all}
 use Rattle.std.proofs.lemmas.Bool.Decides.{nat_tests}
 use Rattle.chdr_packets.specs.declared.packet.Packet.{Packet}
 use Rattle.fabric_core.specs.Machine.{State, Stream, after, enters, hops, stream_at, queue_at}
-use Rattle.fabric_core.specs.Present.{Present, stand_at}
 use Rattle.fabric_core.specs.NetValue.{NetValue, Stands}
-use Rattle.fabric_core.specs.Runs.{IsChosen, after_all, next_of, first_of, chosen, has_unseen, taken_of, end_of, tally_of}
+use Rattle.fabric_core.specs.Runs.{IsChosen, after_all, next_of, has_unseen, taken_of, end_of, tally_of}
 use Rattle.fabric_core.specs.declared.event.Event.{Event}
 use Rattle.fabric_core.specs.declared.event.Event.TheVariants.{Enter, Hop, Seen}
 use Rattle.rfnoc_cli.specs.declared.book.RunBook.{RunBook}

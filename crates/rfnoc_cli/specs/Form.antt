@@ -5,7 +5,7 @@ use Rattle.chdr_words.specs.declared.epid.Epid.{Epid}
 use Rattle.serde_json.specs.Data.{Data}
 use Rattle.serde_json.specs.Find.{get, at}
 use Rattle.serde_json.specs.Read.{read}
-use Rattle.rfnoc_cli.specs.Parts.{has_members, has_items, says, counts, lists, ranged, member_number}
+use Rattle.rfnoc_cli.specs.Parts.{has_members, has_items, says, counts, lists, ranged}
 use Rattle.rfnoc_cli.specs.declared.straight.Straight.{Straight}
 use Rattle.rfnoc_cli.specs.declared.form.Ends.{Ends}
 use Rattle.rfnoc_cli.specs.declared.form.Rates.{Rates}

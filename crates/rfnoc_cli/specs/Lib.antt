@@ -5,3 +5,4 @@ pub mod Lines
 pub mod Report
 pub mod Run
 pub mod TopCall
+pub mod Outcome

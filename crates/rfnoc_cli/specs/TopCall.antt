@@ -1,5 +1,5 @@
 -- What the program does with its input, as one call.
-use Rattle.std.specs.Prelude.{◌≡◌, ◌⊎◌, ℕ, List, [], ◌∷◌, ◌++◌, Bool, true, false, Option, None, Some, IfSome, codes}
+use Rattle.std.specs.Prelude.{◌≡◌, ℕ, List, [], ◌∷◌, ◌++◌, Option, None, Some, IfSome, codes}
 use Rattle.block_library.specs.declared.plan.TxPlan.{TxPlan}
 use Rattle.fabric_core.specs.Laws.{KeepsOrder, plain}
 use Rattle.fabric_core.specs.Runs.{IsWhole, after_all, start}
@@ -7,7 +7,7 @@ use Rattle.fabric_core.specs.declared.event.Event.{Event}
 use Rattle.fabric_core.specs.declared.tally.StreamEnd.TheVariants.{Drained}
 use Rattle.rf_outside.specs.Bytes.{Adds, AddsPrefix}
 use Rattle.rfnoc_cli.specs.Form.{IsScript, IsRefused}
-use Rattle.rfnoc_cli.specs.Report.{report_of, undrained}
+use Rattle.rfnoc_cli.specs.Report.{report_of}
 use Rattle.rfnoc_cli.specs.Run.{IsRunOf}
 use Rattle.rfnoc_cli.specs.declared.book.Book.{Book}
 use Rattle.rfnoc_cli.specs.declared.book.Book.TheVariants.{Net, Block, Connect, Set, Commit, Run}
@@ -66,8 +66,3 @@ pub record IsDone (left old new : Option (List ℕ)) (books : List Book) : Type 
   pub reading : IfSome left (λ bytes. IsScript bytes read)
   pub performed : IsPerformed read books
   pub added : Adds old new (report_of read books)
-
--- the status where nothing fails: 0 for a script of the form, 6 else
-abbrev pub status_of : Option Straight → ℕ
-status_of None = 6
-status_of (Some s) = 0

@@ -1,4 +1,5 @@
-ghost use Rattle.std.specs.Prelude.{◌≡◌, ◌≤◌, IfOk, IfSome, IsErrOf};
+ghost use Rattle.std.specs.Prelude.{◌≡◌, ◌≤◌, IfOk, IfSome, IsSome, IsErrOf};
+ghost use Rattle.std.specs.Io.KnownBytes.{IsAtEnd};
 ghost use Rattle.rf_outside.specs.Causes.{Rose};
 ghost use Rattle.rfnoc_cli.specs.Form.{FitsStraight};
 ghost use Rattle.rfnoc_cli.specs.TopCall.{IsReading};
@@ -45,6 +46,7 @@ pub(crate) fn read_input<S: Source>(
 ) -> Result<Option<Straight>, InputFault>
     ensures script { IfOk result (λ read. IfSome (S.left src.old) (λ bytes. IsReading bytes read)) }
     ensures fits { IfOk result (λ read. IfSome read FitsStraight) }
+    ensures ended { IfOk result (λ read. IsSome read → IsAtEnd (S.left src.new)) }
     ensures failed { IsErrOf result InputFault.Failed → Rose (S.faults src.old) (S.faults src.new) }
 {
     match read_all(alloc, src, SCRIPT_LIMIT) {

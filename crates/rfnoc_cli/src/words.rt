@@ -1,13 +1,41 @@
-ghost use Rattle.std.specs.Prelude.{◌≡◌, map, string_bytes};
-ghost use Rattle.rfnoc_cli.specs.Words.{is_run_one};
+ghost use Rattle.std.specs.Prelude.{◌≡◌};
+ghost use Rattle.rfnoc_cli.specs.Words.{one_word, two_words, form_of_words};
 
-/// Whether the words of the command line are `run --one`.
-#[tactic(auto, unfolding(crate::specs::Words::is_run_one))]
-pub(crate) fn is_run_one(words: &[String]) -> bool
-    ensures { result ≡ is_run_one (map (λ word. string_bytes word) words.now) }
+/// What the words of the command line ask for.
+#[derive(Clone, Copy, Debug, PartialEq, Eq)]
+pub enum Form {
+    RunOne,
+    Check,
+}
+
+/// The form that the words are.
+#[tactic(auto, unfolding(crate::specs::Words::form_of_texts))]
+pub(crate) fn form_of_words(words: &[String]) -> Option<Form>
+    ensures { result ≡ form_of_words words.now }
 {
     match words {
-        [first, second] => first.as_str() == "run" && second.as_str() == "--one",
-        _ => false,
+        [word] => one_word(word.as_str()),
+        [first, second] => two_words(first.as_str(), second.as_str()),
+        _ => None,
+    }
+}
+
+fn one_word(word: &str) -> Option<Form>
+    ensures { result ≡ one_word word.now }
+{
+    if word == "check" {
+        Some(Form::Check)
+    } else {
+        None
+    }
+}
+
+fn two_words(first: &str, second: &str) -> Option<Form>
+    ensures { result ≡ two_words first.now second.now }
+{
+    if first == "run" && second == "--one" {
+        Some(Form::RunOne)
+    } else {
+        None
     }
 }

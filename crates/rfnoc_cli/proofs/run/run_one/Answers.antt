@@ -1,8 +1,7 @@
-use Rattle.std.proofs.Common.{◌≡◌, ℕ, ◌+◌, List, ◌++◌, length, sym, ◌∙◌, ap, subst, arith, rules, length-append}
-use Rattle.std.specs.Prelude.{Option, None, Some}
+use Rattle.std.proofs.Common.{◌≡◌, List, ◌++◌, length, sym, ◌∙◌, ap, subst, arith, length-append}
+use Rattle.std.specs.Prelude.{None}
 use Rattle.chdr_packets.specs.declared.packet.Packet.{Packet}
-use Rattle.fabric_core.specs.declared.event.Event.{Event}
-use Rattle.rfnoc_cli.specs.Run.{IsUnderWay, given_of, waiting_of}
+use Rattle.rfnoc_cli.specs.Run.{IsUnderWay, waiting_of}
 use Rattle.rfnoc_cli.proofs.UnderWay.{begins, goes_further, is_run_ok}
 use Rattle.rfnoc_cli.proofs.run.run_one.Goals as goal
 
