@@ -1,5 +1,5 @@
 -- The packet at the front is unique, is read back, and fits.
-use Rattle.std.proofs.Common.{◌≡◌, ℕ, ◌+◌, ◌-◌, ◌<◌, ◌≤◌, ◌⊎◌, inl, inr, Bool, true, false, ltb, List, length, get_or, Option, None, Some, Result, Ok, Err, refl, sym, ap, ◌∙◌, arith}
+use Rattle.std.proofs.Common.{◌≡◌, ℕ, ◌+◌, ◌-◌, ◌<◌, ◌≤◌, ◌⊎◌, inl, inr, Bool, true, false, ltb, List, length, get_or, Option, None, Some, refl, sym, ap, ◌∙◌, arith}
 use Rattle.std.specs.Prelude.{slice_range}
 use Rattle.std.proofs.lemmas.Bool.{ltb-true, ltb-false}
 use Rattle.std.proofs.lemmas.List.{get_or_past, length-drop}
@@ -8,15 +8,13 @@ use Rattle.chdr_words.specs.Wire.{time_bytes}
 use Rattle.chdr_words.specs.declared.header.Header.{Header}
 use Rattle.chdr_words.specs.Management.{hops_words}
 use Rattle.chdr_words.proofs.ManagementReading.{IsBytes as SmallBytes}
-use Rattle.chdr_packets.specs.declared.fault.PacketFault.{PacketFault}
-use Rattle.chdr_packets.specs.declared.packet.Packet.{Packet}
 use Rattle.chdr_packets.specs.declared.packet.Body.{Body}
 use Rattle.chdr_packets.specs.declared.packet.Body.TheVariants as bodies
 use Rattle.chdr_packets.specs.Fits.{FitsBody}
 use Rattle.chdr_packets.specs.Grammar.{body_time, SpellsBody, payload_start}
 use Rattle.chdr_packets.specs.Length.{body_length, length_of}
 use Rattle.chdr_packets.specs.Laws.{IsBytes, OneAtFront, ReadsBack, SpelledFits}
-use Rattle.chdr_packets.proofs.PacketLemmas.{found}
+use Rattle.chdr_packets.proofs.PacketLemmas.{found, the_packet, the_size}
 use Rattle.chdr_packets.proofs.GrammarLemmas.{front_read, spelled_read}
 use Rattle.chdr_packets.proofs.WritingLemmas.{length-slice, length-words, size_of_hops}
 
@@ -27,16 +25,6 @@ small_bytes b small i = cases (ltb i (length b)) refl
     cases : (t : Bool) → ltb i (length b) ≡ t → get_or b i 0 < 256
     cases true lt = small i 0 (ltb-true _ _ lt)
     cases false past = rw (get_or_past b i 0 (ltb-false _ _ past)) (omega arith)
-
-abbrev the_packet : Packet → Result (Option (Packet × ℕ)) PacketFault → Packet
-the_packet other (Ok None) = other
-the_packet other (Ok (Some x)) = x.0
-the_packet other (Err fault) = other
-
-abbrev the_size : ℕ → Result (Option (Packet × ℕ)) PacketFault → ℕ
-the_size other (Ok None) = other
-the_size other (Ok (Some x)) = x.1
-the_size other (Err fault) = other
 
 pub one_at_front : OneAtFront
 one_at_front b p q m n le le' s t =

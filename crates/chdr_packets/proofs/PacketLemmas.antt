@@ -18,12 +18,13 @@ use Rattle.chdr_packets.specs.declared.packet.Body.{Body}
 use Rattle.chdr_packets.specs.Grammar.{payload_plain, plain_under, is_plain, type_time, start_of}
 use Rattle.chdr_packets.specs.Reading.{Gives, is_reserved, tests_of, frame_read, time_at, body_read, packet_of, packed, opened, packet_read, passed, IsFramed}
 
-abbrev the_packet : Packet → Result (Option (Packet × ℕ)) PacketFault → Packet
+-- the parts of what was read, or others
+abbrev pub the_packet : Packet → Result (Option (Packet × ℕ)) PacketFault → Packet
 the_packet other (Ok None) = other
 the_packet other (Ok (Some x)) = x.0
 the_packet other (Err fault) = other
 
-abbrev the_size : ℕ → Result (Option (Packet × ℕ)) PacketFault → ℕ
+abbrev pub the_size : ℕ → Result (Option (Packet × ℕ)) PacketFault → ℕ
 the_size other (Ok None) = other
 the_size other (Ok (Some x)) = x.1
 the_size other (Err fault) = other
@@ -252,7 +253,7 @@ plain_more x y p n e =
 abbrev fault_of : PacketFault → Result (Option Header) PacketFault
 fault_of fault = Err fault
 
-abbrev failed : PacketFault → Result (Option (Packet × ℕ)) PacketFault
+abbrev pub failed : PacketFault → Result (Option (Packet × ℕ)) PacketFault
 failed fault = Err fault
 
 -- where the header's tests fail they fail whatever follows

@@ -24,7 +24,7 @@ use Rattle.chdr_packets.specs.declared.packet.Body.TheVariants as bodies
 use Rattle.chdr_packets.specs.Grammar.{body_type, SpellsBody, start_of}
 use Rattle.chdr_packets.specs.Reading.{Gives, is_reserved, frame_read, as_body, time_at, body_read, packed, opened, packet_read, IsFramed}
 use Rattle.chdr_packets.specs.Refusals.{front, type_code, IsReserved, HasGoodType, HasBadLength, HasGoodLength, IsShort, IsFaultUnder, SpellsNone, HasBadPayload, HasMemory, Refuses}
-use Rattle.chdr_packets.proofs.PacketLemmas.{frame_ok, frame_is, wire_long}
+use Rattle.chdr_packets.proofs.PacketLemmas.{failed, frame_ok, frame_is, wire_long}
 use Rattle.chdr_packets.proofs.GrammarLemmas.{fine, small_slice}
 
 -- ---- types
@@ -222,9 +222,6 @@ read_told b = cases (frame_read b) refl (frame_said b)
 
 abbrev nothing : Result (Option (Packet × ℕ)) PacketFault
 nothing = Ok None
-
-abbrev failed : PacketFault → Result (Option (Packet × ℕ)) PacketFault
-failed fault = Err fault
 
 short_told : (b : List ℕ) → IsShort b → packet_read b ≡ nothing
 unfolding packet_read
