@@ -10,6 +10,7 @@ ghost use Rattle.chdr_packets.specs.Writing.{Appends};
 use crate::packet::{Body, Packet};
 use chdr_words::{
     Bytes, Header, PktType, encode_command, encode_control, encode_management, encode_status,
+    wire_size,
 };
 use rf_base::{Items, Memory};
 use std::alloc::Global;
@@ -36,8 +37,9 @@ fn type_of(body: &Body) -> PktType
     }
 }
 
-fn header_of(p: &Packet) -> Header
-    requires { FitsPacket p.now }
+fn header_of(p: &Packet, length: u16) -> Header
+    requires fits { FitsPacket p.now }
+    requires length { length ≡ length_of p.now }
     ensures { result ≡ header_for p.now (length_of p.now) }
 {
     Header {
@@ -47,7 +49,7 @@ fn header_of(p: &Packet) -> Header
         pkt_type: type_of(&p.body),
         num_mdata: p.mdata.len() as u8,
         seq: p.seq,
-        length: p.length(),
+        length,
         dst: p.dst,
     }
 }
@@ -105,13 +107,14 @@ fn write(alloc: Global, p: &Packet) -> Result<Vec<u8>, Memory>
     requires { FitsPacket p.now }
     ensures { IfOk result (λ out. IsCanon p.now out.items) }
 {
-    let size = p.wire_size() as usize;
+    let length = p.length();
+    let size = wire_size(length) as usize;
     let mut out = Vec::with_capacity(alloc, size)?;
-    out.extend_from_slice(&header_of(p).write().to_le())?;
+    out.extend_from_slice(&header_of(p, length).write().to_le())?;
     put_time(&mut out, time_of(&p.body))?;
     put_words(&mut out, p.mdata.as_slice())?;
     put_body(alloc, &mut out, &p.body)?;
-    put_pad(&mut out, size - p.length() as usize)?;
+    put_pad(&mut out, size - length as usize)?;
     Ok(out)
 }
 

@@ -9,7 +9,7 @@ pub returns : goal.returns
 returns c =
     let p = c.args.p.now in
     let put = c.in_ok-put_body.ensures in
-    let n : ℕ = c.wire_size-size.result - c.length.result in
+    let n : ℕ = c.wire_size-size.result - c.length-length.result in
     let r : Written p c.write.result.0 put.payload (replicate n 0) = record {
       wide = omega arith;
       header = c.write.ensures.reads ∙ c.header_of.ensures;
@@ -17,7 +17,7 @@ returns c =
       mdata = recursion_from_All (λ (word : ℕ). word < 2 ^ 64) p.mdata (subst (λ (ws : List ℕ). All (λ (word : ℕ). word < 2 ^ 64) ws) c.as_slice.ensures c.put_words.ensures.ranged);
       spelled = put.spelled;
       plain = put.plain;
-      pad = length-replicate n 0 ∙ omega (arith, c.wire_size-size.ensures, c.length.ensures);
+      pad = length-replicate n 0 ∙ omega (arith, c.wire_size-size.ensures, c.length-length.ensures);
       zeros = zeros n;
     } in
     gathered p c.write.result.0 put.payload (replicate n 0) r c.time_of.result c.to_le.result c.as_slice.result.now _ _ _ _ _ _ c.in_ok-out.ensures.items
