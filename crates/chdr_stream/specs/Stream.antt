@@ -44,11 +44,19 @@ passing_at s (Ok None) = Ok None
 passing_at s (Ok (Some found)) = Ok (Some (record { at = s.at; canonical = is_plain s.kept }))
 passing_at s (Err fault) = Err (Bad s.at fault)
 
--- the state behind it: past a packet, or at a fault for good
+-- past so many bytes
+abbrev pub past : Stream → ℕ → Stream
+past s size = record s { at = s.at + size; kept = drop size s.kept }
+
+-- at a fault for good
+abbrev pub stopped : Stream → PacketFault → Stream
+stopped s fault = record s { fault = Some fault }
+
+-- the state behind what is found
 abbrev pub after : Stream → Result (Option (Packet × ℕ)) PacketFault → Stream
 after s (Ok None) = s
-after s (Ok (Some found)) = record s { at = s.at + found.1; kept = drop found.1 s.kept }
-after s (Err fault) = record s { fault = Some fault }
+after s (Ok (Some found)) = past s found.1
+after s (Err fault) = stopped s fault
 
 -- the answer is that, and the state moved on, unless memory ran out, where it stays
 abbrev pub Answers : Stream → Stream → Result (Option Placed) StreamFault → Type 0

@@ -1,6 +1,6 @@
 ghost use Rattle.std.specs.Prelude.{◌≡◌, ℕ, ◌+◌, ◌<◌, ◌≤◌, ◌^◌, ◌↔◌, ◌++◌, [], drop, vec_len, length, Ok, None, Some, OnOk, OnErr, IfOk, IsErr};
 ghost use Rattle.chdr_packets.specs.Reading.{packet_read};
-ghost use Rattle.chdr_stream.specs.Stream.{Answers, after, fed_with, finish_at, passing_at, reading};
+ghost use Rattle.chdr_stream.specs.Stream.{Answers, after, fed_with, finish_at, passing_at, past, reading, stopped};
 
 use crate::placed::{FinishFault, Passed, Placed, StreamFault};
 use chdr_packets::{PacketFault, decode, is_canonical, pass};
@@ -73,6 +73,28 @@ impl Decoder {
         Ok(())
     }
 
+    /// Goes past a packet, and tells its place.
+    fn move_on(&mut self, size: usize) -> u64
+        requires within { size ≤ length self.old.kept }
+        requires below { self.old.at + length self.old.kept < 2 ^ 64 }
+        ensures place { result ≡ self.old.at }
+        ensures moves { self.new ≡ past self.old size }
+    {
+        let at = self.at;
+        self.start += size;
+        self.at += size as u64;
+        at
+    }
+
+    /// Stays at a fault for good.
+    fn stop(&mut self, fault: PacketFault) -> StreamFault
+        ensures told { result ≡ StreamFault.Bad self.old.at fault }
+        ensures stands { self.new ≡ stopped self.old fault }
+    {
+        self.fault = Some(fault);
+        StreamFault::Bad { at: self.at, fault }
+    }
+
     /// The next packet; `None` where its bytes aren't all there, and again the same fault where it has one.
     pub fn next(&mut self) -> Result<Option<Placed>, StreamFault>
         requires { self.old.at + length self.old.kept < 2 ^ 64 }
@@ -88,20 +110,15 @@ impl Decoder {
             Ok(None) => Ok(None),
             Ok(Some((packet, size))) => {
                 let canonical = is_canonical(kept);
-                let placed = Placed {
-                    at: self.at,
+                let at = self.move_on(size);
+                Ok(Some(Placed {
+                    at,
                     canonical,
                     packet,
-                };
-                self.start += size;
-                self.at += size as u64;
-                Ok(Some(placed))
+                }))
             }
             Err(PacketFault::Memory) => Err(StreamFault::Memory),
-            Err(fault) => {
-                self.fault = Some(fault);
-                Err(StreamFault::Bad { at: self.at, fault })
-            }
+            Err(fault) => Err(self.stop(fault)),
         }
     }
 
@@ -119,18 +136,10 @@ impl Decoder {
         match pass(&self.bytes[self.start..]) {
             Ok(None) => Ok(None),
             Ok(Some((size, canonical))) => {
-                let passed = Passed {
-                    at: self.at,
-                    canonical,
-                };
-                self.start += size;
-                self.at += size as u64;
-                Ok(Some(passed))
+                let at = self.move_on(size);
+                Ok(Some(Passed { at, canonical }))
             }
-            Err(fault) => {
-                self.fault = Some(fault);
-                Err(StreamFault::Bad { at: self.at, fault })
-            }
+            Err(fault) => Err(self.stop(fault)),
         }
     }
 
