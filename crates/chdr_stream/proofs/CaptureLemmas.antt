@@ -12,16 +12,11 @@ use Rattle.chdr_packets.proofs.GrammarLemmas.{read_spells, spells_read}
 use Rattle.chdr_packets.proofs.PacketLemmas.{found, read-take, plain_more}
 use Rattle.chdr_stream.specs.declared.placed.Placed.{Placed}
 use Rattle.chdr_stream.specs.Capture.{IsCaptureOf, Reason, bad, truncated, Capture, behind, capture_from}
-use Rattle.chdr_stream.specs.FirstFault.{AreBytes, FailsBy}
 use Rattle.chdr_stream.specs.Places.{packets_of, IsPlaced, ArePlaced}
+use Rattle.chdr_stream.proofs.ReasonLemmas.{Finds}
 use Rattle.chdr_stream.proofs.StreamLemmas.{capture-part, capture-bad, capture-cut, marked, with_items}
 
 -- ---- bytes
-
-pub are_bytes : (b : List ℕ) → AreBytes b → IsBytes b
-are_bytes [] all i = omega arith
-are_bytes (x ∷ b) all zero = all 0 0 (omega arith)
-are_bytes (x ∷ b) all (suc i) = are_bytes b (λ k d le. all (suc k) d (omega arith)) i
 
 pub front_bytes : (x y : List ℕ) → IsBytes (x ++ y) → IsBytes x
 front_bytes [] y small i = omega arith
@@ -94,7 +89,7 @@ placed_capture at (item ∷ items) b (front, rest, split, one, others) = (front,
 -- why what is shown ends behind so many bytes
 abbrev pub StopsBy : Option (ℕ × Reason) → ℕ → ℕ → List ℕ → Type 0
 StopsBy None at size b = size ≡ length b
-StopsBy (Some fault) at size b = (fault.0 ≡ at + size) × FailsBy fault.1 (drop size b)
+StopsBy (Some fault) at size b = (fault.0 ≡ at + size) × Finds fault.1 (drop size b)
 
 pub record Shows (at : ℕ) (b : List ℕ) (c : Capture) : Type 0 where
   pub size : ℕ
@@ -106,12 +101,12 @@ shows_none : (at : ℕ) → Shows at [] (capture_from 0 at [])
 unfolding capture_from
 shows_none at = record { size = 0; within = omega arith; placed = refl; stops = refl }
 
-shows_fault : (at : ℕ) (b : List ℕ) (reason : Reason) → FailsBy reason b → Shows at b (with_items [] (Some (at, reason)))
+shows_fault : (at : ℕ) (b : List ℕ) (reason : Reason) → Finds reason b → Shows at b (with_items [] (Some (at, reason)))
 shows_fault at b reason fails = record { size = 0; within = omega arith; placed = refl; stops = (omega arith, fails) }
 
 stops_behind : (fault : Option (ℕ × Reason)) (at n size : ℕ) (b : List ℕ) → n ≤ length b → StopsBy fault (at + n) size (drop n b) → StopsBy fault at (n + size) b
 stops_behind None at n size b le stops = omega (arith, stops, length-drop n b)
-stops_behind (Some fault) at n size b le stops = (omega (arith, stops.0), subst (FailsBy fault.1) (drop-drop size n b) stops.1)
+stops_behind (Some fault) at n size b le stops = (omega (arith, stops.0), subst (Finds fault.1) (drop-drop size n b) stops.1)
 
 -- the packet that is read stands at its place
 pub one_placed : (at : ℕ) (b : List ℕ) (p : Packet) (n : ℕ) → IsBytes b → packet_read b ≡ found p n → IsPlaced at (marked at (is_plain b) p) (take n b)

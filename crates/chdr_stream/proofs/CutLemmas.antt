@@ -15,13 +15,14 @@ use Rattle.chdr_stream.specs.declared.placed.StreamFault.TheVariants.{Bad, Memor
 use Rattle.chdr_stream.specs.declared.placed.FinishFault.{FinishFault}
 use Rattle.chdr_stream.specs.declared.placed.FinishFault.TheVariants as finishes
 use Rattle.chdr_stream.specs.Capture.{Reason, bad, truncated, Capture, behind, capture_from, capture_of}
-use Rattle.chdr_stream.specs.FirstFault.{AreBytes}
 use Rattle.chdr_stream.specs.Places.{IsPlaced, ArePlaced}
 use Rattle.chdr_stream.specs.Stream.{Stream, fed_with, reading, answer_at, after, passing_at}
 use Rattle.chdr_stream.specs.Calls.{Call, feeds, asks, wants, opened, with_call, given, given_with, fed_with_call, with_calls, given_by, fed_by, IsRead, FindsNone, IsDrained, stop_at}
 use Rattle.chdr_stream.specs.Laws.{KeepsRest, NamesFault, NamesCut, EndsWhole, IsAnyCut, StaysAtFault, IsACall, PassTells, without_packet}
 use Rattle.chdr_stream.proofs.StreamLemmas.{with_items, marked, capture-bad, capture-cut}
-use Rattle.chdr_stream.proofs.CaptureLemmas.{are_bytes, front_bytes, back_bytes, placed_shown, one_placed}
+use Rattle.chdr_packets.specs.Laws.{IsBytes as AllBytes}
+use Rattle.chdr_packets.proofs.LawLemmas.{small_bytes}
+use Rattle.chdr_stream.proofs.CaptureLemmas.{front_bytes, back_bytes, placed_shown, one_placed}
 use Rattle.chdr_stream.proofs.FaultLemmas.{capture_none, first_shown}
 
 abbrev state : ℕ → List ℕ → Option PacketFault → Stream
@@ -119,7 +120,7 @@ keeps fed items at kept (Some fault) e c = absurd cc
 pub keeps_rest : KeepsRest
 keeps_rest calls all none =
     let s = with_calls opened calls in
-    keeps (fed_by calls) (given_by opened calls) s.at s.kept s.fault none (cut calls (are_bytes (fed_by calls) all))
+    keeps (fed_by calls) (given_by opened calls) s.at s.kept s.fault none (cut calls (small_bytes (fed_by calls) all))
 
 -- what is shown where the bytes behind the packets given have a fault, whatever follows
 shown_bad : (fed more : List ℕ) (items : List Placed) (s : Stream) (c : Cut fed items s) (fault : PacketFault) → IsBytes fed → packet_read c.rest ≡ Err fault
@@ -157,7 +158,7 @@ pub names_fault : NamesFault
 names_fault calls more at fault all e =
     let fed = fed_by calls in
     let s = with_calls opened calls in
-    let small : IsBytes fed = front_bytes fed more (are_bytes (fed ++ more) all) in
+    let small : IsBytes fed = front_bytes fed more (small_bytes (fed ++ more) all) in
     let c = cut calls small in
     let a = bad_answer s.at s.kept s.fault c.rest at fault c.stands e in
     let is : capture_of (fed ++ more) ≡ with_items (given_by opened calls) (Some (at, bad fault)) =
@@ -203,12 +204,12 @@ drained_shown fed items at kept None small drained c = cases (packet_read kept) 
 pub any_cut : IsAnyCut
 any_cut calls all drained =
     let s = with_calls opened calls in
-    let small = are_bytes (fed_by calls) all in
+    let small = small_bytes (fed_by calls) all in
     drained_shown (fed_by calls) (given_by opened calls) s.at s.kept s.fault small drained (cut calls small)
 
 -- ---- the end
 
-ended_shown : (calls : List Call) → AreBytes (fed_by calls) → reading (with_calls opened calls) ≡ Ok None → capture_of (fed_by calls) ≡ with_items (given_by opened calls) (stop_at (with_calls opened calls) (Ok None))
+ended_shown : (calls : List Call) → AllBytes (fed_by calls) → reading (with_calls opened calls) ≡ Ok None → capture_of (fed_by calls) ≡ with_items (given_by opened calls) (stop_at (with_calls opened calls) (Ok None))
 ended_shown calls all none =
     any_cut calls all (subst FindsNone (sym none) tt) ∙ ap (λ (r : Result (Option (Packet × ℕ)) PacketFault). with_items (given_by opened calls) (stop_at (with_calls opened calls) r)) none
 
@@ -231,7 +232,7 @@ accepted false at e = absurd cc
 pub ends_whole : EndsWhole
 ends_whole calls all none e =
     let s = with_calls opened calls in
-    let c = cut calls (are_bytes (fed_by calls) all) in
+    let c = cut calls (small_bytes (fed_by calls) all) in
     let left : length s.kept ≡ 0 = eqb-true _ _ (accepted (eqb (length s.kept) 0) s.at e) in
     let kept : IsRead (fed_by calls) (given_by opened calls) s.at s.kept = keeps_rest calls all (unfaulted s.at s.kept s.fault none) in
     subst (ArePlaced 0 (given_by opened calls)) (sym (kept.whole ∙ ap (λ (l : List ℕ). kept.front ++ l) (nil_from_length s.kept left) ∙ append-nil kept.front)) kept.placed

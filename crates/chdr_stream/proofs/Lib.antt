@@ -1,4 +1,5 @@
 pub mod StreamLemmas
+pub mod ReasonLemmas
 pub mod CaptureLemmas
 pub mod FaultLemmas
 pub mod CutLemmas

@@ -8,7 +8,8 @@ use Rattle.chdr_stream.specs.declared.placed.Placed.{Placed}
 use Rattle.chdr_stream.specs.declared.placed.StreamFault.{StreamFault}
 use Rattle.chdr_stream.specs.declared.placed.StreamFault.TheVariants.{Bad}
 use Rattle.chdr_stream.specs.Capture.{IsCaptureOf, Reason, bad, truncated, capture_of}
-use Rattle.chdr_stream.specs.FirstFault.{AreBytes, IsLongestFront, IsFirstFault}
+use Rattle.chdr_packets.specs.Laws.{IsBytes}
+use Rattle.chdr_stream.specs.FirstFault.{IsLongestFront, IsFirstFault}
 use Rattle.chdr_stream.specs.Places.{packets_of, ArePlaced}
 use Rattle.chdr_stream.specs.Stream.{Answers, Stream, reading, answer_at, finish_at, passing_at}
 use Rattle.chdr_stream.specs.Calls.{Call, fed_with_call, given, given_with, opened, with_call, with_calls, given_by, fed_by, IsRead, IsDrained, stop_at}
@@ -24,35 +25,35 @@ end_of len (Some fault) = fault.0
 
 -- no fault is shown exactly where the bytes are a capture of the packets shown
 abbrev pub ShowsCaptures : Type 0
-ShowsCaptures = (bytes : List ℕ) → AreBytes bytes → ((capture_of bytes).fault ≡ None) ↔ IsCaptureOf (shown bytes) bytes
+ShowsCaptures = (bytes : List ℕ) → IsBytes bytes → ((capture_of bytes).fault ≡ None) ↔ IsCaptureOf (shown bytes) bytes
 
 -- bytes are a capture of one list of packets alone
 abbrev pub ShowsOnly : Type 0
-ShowsOnly = (bytes : List ℕ) (packets : List Packet) → AreBytes bytes → IsCaptureOf packets bytes → packets ≡ shown bytes
+ShowsOnly = (bytes : List ℕ) (packets : List Packet) → IsBytes bytes → IsCaptureOf packets bytes → packets ≡ shown bytes
 
 -- bytes are a capture or have a first fault
 abbrev pub IsWholeOrFaulty : Type 0
-IsWholeOrFaulty = (bytes : List ℕ) → AreBytes bytes → IsCaptureOf (shown bytes) bytes ⊎ ((at : ℕ) × (reason : Reason) × IsFirstFault bytes at reason)
+IsWholeOrFaulty = (bytes : List ℕ) → IsBytes bytes → IsCaptureOf (shown bytes) bytes ⊎ ((at : ℕ) × (reason : Reason) × IsFirstFault bytes at reason)
 
 -- a capture has none
 abbrev pub HasNone : Type 0
-HasNone = (bytes : List ℕ) (packets : List Packet) (at : ℕ) (reason : Reason) → AreBytes bytes → IsCaptureOf packets bytes → ¬ IsFirstFault bytes at reason
+HasNone = (bytes : List ℕ) (packets : List Packet) (at : ℕ) (reason : Reason) → IsBytes bytes → IsCaptureOf packets bytes → ¬ IsFirstFault bytes at reason
 
 -- there is one at most
 abbrev pub HasOne : Type 0
-HasOne = (bytes : List ℕ) (at place : ℕ) (reason other : Reason) → AreBytes bytes → IsFirstFault bytes at reason → IsFirstFault bytes place other → (at ≡ place) × (reason ≡ other)
+HasOne = (bytes : List ℕ) (at place : ℕ) (reason other : Reason) → IsBytes bytes → IsFirstFault bytes at reason → IsFirstFault bytes place other → (at ≡ place) × (reason ≡ other)
 
 -- the fault shown is the first fault
 abbrev pub ShowsFirstFault : Type 0
-ShowsFirstFault = (bytes : List ℕ) (at : ℕ) (reason : Reason) → AreBytes bytes → ((capture_of bytes).fault ≡ Some (at, reason)) ↔ IsFirstFault bytes at reason
+ShowsFirstFault = (bytes : List ℕ) (at : ℕ) (reason : Reason) → IsBytes bytes → ((capture_of bytes).fault ≡ Some (at, reason)) ↔ IsFirstFault bytes at reason
 
 -- the packets shown before it are those of the longest front that is a capture
 abbrev pub ShowsLongest : Type 0
-ShowsLongest = (bytes : List ℕ) (at : ℕ) (reason : Reason) → AreBytes bytes → (capture_of bytes).fault ≡ Some (at, reason) → IsLongestFront bytes (shown bytes) at
+ShowsLongest = (bytes : List ℕ) (at : ℕ) (reason : Reason) → IsBytes bytes → (capture_of bytes).fault ≡ Some (at, reason) → IsLongestFront bytes (shown bytes) at
 
 -- each packet shown tells its place, and whether it is canonical
 abbrev pub ShowsPlaces : Type 0
-ShowsPlaces = (bytes : List ℕ) → AreBytes bytes → ArePlaced 0 (capture_of bytes).items (take (end_of (length bytes) (capture_of bytes).fault) bytes)
+ShowsPlaces = (bytes : List ℕ) → IsBytes bytes → ArePlaced 0 (capture_of bytes).items (take (end_of (length bytes) (capture_of bytes).fault) bytes)
 
 -- what `next` answers and leaves, by its clause, is that of one of the calls
 abbrev pub IsACall : Type 0
@@ -71,28 +72,28 @@ PassTells = (s : Stream) → passing_at s (reading s) ≡ without_packet (answer
 
 -- as long as no fault stands, the bytes fed are the packets given and the bytes kept
 abbrev pub KeepsRest : Type 0
-KeepsRest = (calls : List Call) → AreBytes (fed_by calls) → (with_calls opened calls).fault ≡ None
+KeepsRest = (calls : List Call) → IsBytes (fed_by calls) → (with_calls opened calls).fault ≡ None
     → IsRead (fed_by calls) (given_by opened calls) (with_calls opened calls).at (with_calls opened calls).kept
 
 -- a fault answered is the first fault of the bytes fed, whatever follows them, and the packets given are those before it
 abbrev pub NamesFault : Type 0
-NamesFault = (calls : List Call) (more : List ℕ) (at : ℕ) (fault : PacketFault) → AreBytes (fed_by calls ++ more)
+NamesFault = (calls : List Call) (more : List ℕ) (at : ℕ) (fault : PacketFault) → IsBytes (fed_by calls ++ more)
     → answer_at (with_calls opened calls) (reading (with_calls opened calls)) ≡ Err (Bad at fault)
     → IsFirstFault (fed_by calls ++ more) at (bad fault) × ArePlaced 0 (given_by opened calls) (take at (fed_by calls ++ more))
 
 -- the place at which the end is refused is the first fault of the bytes fed
 abbrev pub NamesCut : Type 0
-NamesCut = (calls : List Call) (at : ℕ) → AreBytes (fed_by calls) → reading (with_calls opened calls) ≡ Ok None
+NamesCut = (calls : List Call) (at : ℕ) → IsBytes (fed_by calls) → reading (with_calls opened calls) ≡ Ok None
     → finish_at (with_calls opened calls) ≡ Err (finishes.Truncated at) → IsFirstFault (fed_by calls) at truncated
 
 -- where the end is accepted the bytes fed are a capture of the packets given
 abbrev pub EndsWhole : Type 0
-EndsWhole = (calls : List Call) → AreBytes (fed_by calls) → reading (with_calls opened calls) ≡ Ok None
+EndsWhole = (calls : List Call) → IsBytes (fed_by calls) → reading (with_calls opened calls) ≡ Ok None
     → finish_at (with_calls opened calls) ≡ Ok tt → ArePlaced 0 (given_by opened calls) (fed_by calls)
 
 -- once no packet is there, the bytes fed alone tell what was given and at which fault the stream stands
 abbrev pub IsAnyCut : Type 0
-IsAnyCut = (calls : List Call) → AreBytes (fed_by calls) → IsDrained (with_calls opened calls)
+IsAnyCut = (calls : List Call) → IsBytes (fed_by calls) → IsDrained (with_calls opened calls)
     → capture_of (fed_by calls) ≡ record { items = given_by opened calls; fault = stop_at (with_calls opened calls) (reading (with_calls opened calls)) }
 
 -- at a fault no call changes or gives anything

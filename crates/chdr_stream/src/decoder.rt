@@ -1,4 +1,4 @@
-ghost use Rattle.std.specs.Prelude.{◌≡◌, ℕ, ◌+◌, ◌<◌, ◌≤◌, ◌^◌, ◌↔◌, ◌++◌, [], drop, vec_len, length, Ok, None, Some, OnOk, OnErr, IfOk, IsErr};
+ghost use Rattle.std.specs.Prelude.{◌≡◌, ℕ, ◌+◌, ◌<◌, ◌≤◌, ◌^◌, ◌↔◌, ◌++◌, [], drop, vec_len, length, Ok, None, Some, IsOk, IsSome, OnOk, OnErr, IfOk, IsErr};
 ghost use Rattle.chdr_packets.specs.Reading.{packet_read};
 ghost use Rattle.chdr_stream.specs.Stream.{Answers, after, fed_with, finish_at, passing_at, past, reading, stopped};
 
@@ -56,13 +56,14 @@ impl Decoder {
         }
     }
 
-    /// Appends the piece; at a fault it changes nothing.
+    /// Appends the piece; at a fault it changes nothing and is `Ok`.
     ///
     /// It costs what the bytes kept and the piece cost, and memory only where both don't fit into what it has.
     pub fn feed(&mut self, piece: &[u8]) -> Result<(), Memory>
         requires { self.old.at + length self.old.kept + length piece.now < 2 ^ 64 }
         ensures ok { OnOk result (self.new ≡ fed_with self.old piece.now) }
         ensures err { OnErr result (self.new ≡ self.old) }
+        ensures behind { IsSome self.old.fault → IsOk result }
     {
         if self.fault.is_some() {
             return Ok(());
