@@ -17,7 +17,7 @@ use Rattle.chdr_stream.specs.declared.placed.FinishFault.TheVariants as finishes
 use Rattle.chdr_stream.specs.Capture.{Reason, bad, truncated, Capture, behind, capture_from, capture_of}
 use Rattle.chdr_stream.specs.Places.{IsPlaced, ArePlaced}
 use Rattle.chdr_stream.specs.Stream.{Stream, fed_with, reading, answer_at, after, passing_at}
-use Rattle.chdr_stream.specs.Calls.{Call, feeds, asks, wants, opened, with_call, given, given_with, fed_with_call, with_calls, given_by, fed_by, IsRead, FindsNone, IsDrained, stop_at}
+use Rattle.chdr_stream.specs.Calls.{Call, feeds, asks, wants, opened, with_call, given, given_with, fed_with_call, with_calls, decoder_of, given_from, given_by, fed_by, IsRead, FindsNone, IsDrained, stop_at}
 use Rattle.chdr_stream.specs.Laws.{KeepsRest, NamesFault, NamesCut, EndsWhole, IsAnyCut, StaysAtFault, IsACall, PassTells, without_packet}
 use Rattle.chdr_stream.proofs.StreamLemmas.{with_items, marked, capture-bad, capture-cut}
 use Rattle.chdr_packets.specs.Laws.{IsBytes as AllBytes}
@@ -99,16 +99,16 @@ cut_call fed items s (feeds piece) small c = cut_kept (fed ++ piece) items (fed_
 cut_call fed items s asks small c = subst (λ (l : List ℕ). Cut l (items ++ given_with s asks) (with_call s asks)) (sym (append-nil fed)) (cut_asked fed items s.at s.kept s.fault small c)
 cut_call fed items s wants small c = subst (λ (l : List ℕ). Cut l (items ++ []) s) (sym (append-nil fed)) (cut_kept fed items s c)
 
-cut_calls : (calls : List Call) (fed : List ℕ) (items : List Placed) (s : Stream) → IsBytes (fed ++ fed_by calls) → Cut fed items s → Cut (fed ++ fed_by calls) (items ++ given_by s calls) (with_calls s calls)
+cut_calls : (calls : List Call) (fed : List ℕ) (items : List Placed) (s : Stream) → IsBytes (fed ++ fed_by calls) → Cut fed items s → Cut (fed ++ fed_by calls) (items ++ given_from s calls) (with_calls s calls)
 cut_calls [] fed items s small c = subst (λ (l : List ℕ). Cut l (items ++ []) s) (sym (append-nil fed)) (cut_kept fed items s c)
 cut_calls (call ∷ calls) fed items s small c =
     let split : (fed ++ fed_with_call call) ++ fed_by calls ≡ fed ++ (fed_with_call call ++ fed_by calls) = append_assoc fed (fed_with_call call) (fed_by calls) in
-    let some : (items ++ given_with s call) ++ given_by (with_call s call) calls ≡ items ++ (given_with s call ++ given_by (with_call s call) calls) = append_assoc items (given_with s call) (given_by (with_call s call) calls) in
+    let some : (items ++ given_with s call) ++ given_from (with_call s call) calls ≡ items ++ (given_with s call ++ given_from (with_call s call) calls) = append_assoc items (given_with s call) (given_from (with_call s call) calls) in
     let more = cut_calls calls (fed ++ fed_with_call call) (items ++ given_with s call) (with_call s call) (subst IsBytes (sym split) small) (cut_call fed items s call (front_bytes fed (fed_with_call call ++ fed_by calls) small) c) in
-    subst (λ (l : List ℕ). Cut l (items ++ (given_with s call ++ given_by (with_call s call) calls)) (with_calls (with_call s call) calls)) split
+    subst (λ (l : List ℕ). Cut l (items ++ (given_with s call ++ given_from (with_call s call) calls)) (with_calls (with_call s call) calls)) split
     (subst (λ (l : List Placed). Cut ((fed ++ fed_with_call call) ++ fed_by calls) l (with_calls (with_call s call) calls)) some more)
 
-pub cut : (calls : List Call) → IsBytes (fed_by calls) → Cut (fed_by calls) (given_by opened calls) (with_calls opened calls)
+pub cut : (calls : List Call) → IsBytes (fed_by calls) → Cut (fed_by calls) (given_by calls) (decoder_of calls)
 cut calls small = cut_calls calls [] [] opened small (record { front = []; rest = []; whole = refl; place = refl; placed = refl; stands = refl })
 
 -- ---- the laws
@@ -119,8 +119,8 @@ keeps fed items at kept (Some fault) e c = absurd cc
 
 pub keeps_rest : KeepsRest
 keeps_rest calls all none =
-    let s = with_calls opened calls in
-    keeps (fed_by calls) (given_by opened calls) s.at s.kept s.fault none (cut calls (small_bytes (fed_by calls) all))
+    let s = decoder_of calls in
+    keeps (fed_by calls) (given_by calls) s.at s.kept s.fault none (cut calls (small_bytes (fed_by calls) all))
 
 -- what is shown where the bytes behind the packets given have a fault, whatever follows
 shown_bad : (fed more : List ℕ) (items : List Placed) (s : Stream) (c : Cut fed items s) (fault : PacketFault) → IsBytes fed → packet_read c.rest ≡ Err fault
@@ -157,16 +157,16 @@ bad_answer a kept None rest at fault stands e = cases (packet_read kept) refl e
 pub names_fault : NamesFault
 names_fault calls more at fault all e =
     let fed = fed_by calls in
-    let s = with_calls opened calls in
+    let s = decoder_of calls in
     let small : IsBytes fed = front_bytes fed more (small_bytes (fed ++ more) all) in
     let c = cut calls small in
     let a = bad_answer s.at s.kept s.fault c.rest at fault c.stands e in
-    let is : capture_of (fed ++ more) ≡ with_items (given_by opened calls) (Some (at, bad fault)) =
-    shown_bad fed more (given_by opened calls) s c fault small a.read ∙ ap (λ (k : ℕ). with_items (given_by opened calls) (Some (k, bad fault))) (sym a.place) in
+    let is : capture_of (fed ++ more) ≡ with_items (given_by calls) (Some (at, bad fault)) =
+    shown_bad fed more (given_by calls) s c fault small a.read ∙ ap (λ (k : ℕ). with_items (given_by calls) (Some (k, bad fault))) (sym a.place) in
     let front : c.front ≡ take at (fed ++ more) =
     sym (take-append_seam c.front (c.rest ++ more)) ∙ ap (λ (k : ℕ). take k (c.front ++ (c.rest ++ more))) (sym (a.place ∙ c.place))
     ∙ ap (take at) (sym (ap (λ (l : List ℕ). l ++ more) c.whole ∙ append_assoc c.front c.rest more)) in
-    (first_shown (fed ++ more) at (bad fault) all (ap (λ (x : Capture). x.fault) is), subst (ArePlaced 0 (given_by opened calls)) front c.placed)
+    (first_shown (fed ++ more) at (bad fault) all (ap (λ (x : Capture). x.fault) is), subst (ArePlaced 0 (given_by calls)) front c.placed)
 
 abbrev ending : Bool → ℕ → Option (ℕ × Reason)
 ending none at = cond none None (Some (at, truncated))
@@ -203,15 +203,15 @@ drained_shown fed items at kept None small drained c = cases (packet_read kept) 
 
 pub any_cut : IsAnyCut
 any_cut calls all drained =
-    let s = with_calls opened calls in
+    let s = decoder_of calls in
     let small = small_bytes (fed_by calls) all in
-    drained_shown (fed_by calls) (given_by opened calls) s.at s.kept s.fault small drained (cut calls small)
+    drained_shown (fed_by calls) (given_by calls) s.at s.kept s.fault small drained (cut calls small)
 
 -- ---- the end
 
-ended_shown : (calls : List Call) → AllBytes (fed_by calls) → reading (with_calls opened calls) ≡ Ok None → capture_of (fed_by calls) ≡ with_items (given_by opened calls) (stop_at (with_calls opened calls) (Ok None))
+ended_shown : (calls : List Call) → AllBytes (fed_by calls) → reading (decoder_of calls) ≡ Ok None → capture_of (fed_by calls) ≡ with_items (given_by calls) (stop_at (decoder_of calls) (Ok None))
 ended_shown calls all none =
-    any_cut calls all (subst FindsNone (sym none) tt) ∙ ap (λ (r : Result (Option (Packet × ℕ)) PacketFault). with_items (given_by opened calls) (stop_at (with_calls opened calls) r)) none
+    any_cut calls all (subst FindsNone (sym none) tt) ∙ ap (λ (r : Result (Option (Packet × ℕ)) PacketFault). with_items (given_by calls) (stop_at (decoder_of calls) r)) none
 
 abbrev finished : Bool → ℕ → Result (Unit {0}) FinishFault
 finished none at = cond none (Ok tt) (Err (finishes.Truncated at))
@@ -222,7 +222,7 @@ refused false at place e = let same : at ≡ place = cc in ap (λ (k : ℕ). Som
 
 pub names_cut : NamesCut
 names_cut calls at all none e =
-    let s = with_calls opened calls in
+    let s = decoder_of calls in
     first_shown (fed_by calls) at truncated all (ap (λ (x : Capture). x.fault) (ended_shown calls all none) ∙ refused (eqb (length s.kept) 0) s.at at e)
 
 accepted : (none : Bool) (at : ℕ) → finished none at ≡ Ok tt → none ≡ true
@@ -231,11 +231,11 @@ accepted false at e = absurd cc
 
 pub ends_whole : EndsWhole
 ends_whole calls all none e =
-    let s = with_calls opened calls in
+    let s = decoder_of calls in
     let c = cut calls (small_bytes (fed_by calls) all) in
     let left : length s.kept ≡ 0 = eqb-true _ _ (accepted (eqb (length s.kept) 0) s.at e) in
-    let kept : IsRead (fed_by calls) (given_by opened calls) s.at s.kept = keeps_rest calls all (unfaulted s.at s.kept s.fault none) in
-    subst (ArePlaced 0 (given_by opened calls)) (sym (kept.whole ∙ ap (λ (l : List ℕ). kept.front ++ l) (nil_from_length s.kept left) ∙ append-nil kept.front)) kept.placed
+    let kept : IsRead (fed_by calls) (given_by calls) s.at s.kept = keeps_rest calls all (unfaulted s.at s.kept s.fault none) in
+    subst (ArePlaced 0 (given_by calls)) (sym (kept.whole ∙ ap (λ (l : List ℕ). kept.front ++ l) (nil_from_length s.kept left) ∙ append-nil kept.front)) kept.placed
   where
     unfaulted : (at : ℕ) (kept : List ℕ) (fault : Option PacketFault) → reading (state at kept fault) ≡ Ok None → fault ≡ None
     unfaulted at kept None e = refl
@@ -259,7 +259,7 @@ pass_tells s = cases (reading s)
 -- ---- at a fault
 
 stays : (at : ℕ) (kept : List ℕ) (fault : PacketFault) (calls : List Call)
-    → (with_calls (state at kept (Some fault)) calls ≡ state at kept (Some fault)) × (given_by (state at kept (Some fault)) calls ≡ [])
+    → (with_calls (state at kept (Some fault)) calls ≡ state at kept (Some fault)) × (given_from (state at kept (Some fault)) calls ≡ [])
 stays at kept fault [] = (refl, refl)
 stays at kept fault (feeds piece ∷ calls) = stays at kept fault calls
 stays at kept fault (asks ∷ calls) = stays at kept fault calls
@@ -267,4 +267,4 @@ stays at kept fault (wants ∷ calls) = stays at kept fault calls
 
 pub stays_at_fault : StaysAtFault
 stays_at_fault s fault calls e =
-    subst (λ (f : Option PacketFault). (with_calls (state s.at s.kept f) calls ≡ state s.at s.kept f) × (given_by (state s.at s.kept f) calls ≡ [])) (sym e) (stays s.at s.kept fault calls)
+    subst (λ (f : Option PacketFault). (with_calls (state s.at s.kept f) calls ≡ state s.at s.kept f) × (given_from (state s.at s.kept f) calls ≡ [])) (sym e) (stays s.at s.kept fault calls)

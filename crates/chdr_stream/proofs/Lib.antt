@@ -3,3 +3,4 @@ pub mod ReasonLemmas
 pub mod CaptureLemmas
 pub mod FaultLemmas
 pub mod CutLemmas
+pub mod SameLemmas

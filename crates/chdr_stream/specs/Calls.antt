@@ -24,6 +24,10 @@ with_call s (feeds piece) = fed_with s piece
 with_call s asks = after s (reading s)
 with_call s wants = s
 
+-- what a decoder answers to `next` where memory suffices
+abbrev pub answer_of : Stream → Result (Option Placed) StreamFault
+answer_of s = answer_at s (reading s)
+
 -- the packet of an answer
 abbrev pub given : Result (Option Placed) StreamFault → List Placed
 given (Ok None) = []
@@ -33,7 +37,7 @@ given (Err fault) = []
 -- the packet that a call gives
 abbrev pub given_with : Stream → Call → List Placed
 given_with s (feeds piece) = []
-given_with s asks = given (answer_at s (reading s))
+given_with s asks = given (answer_of s)
 given_with s wants = []
 
 -- the bytes that a call feeds
@@ -48,9 +52,17 @@ with_calls s [] = s
 with_calls s (call ∷ calls) = with_calls (with_call s call) calls
 
 -- the packets that calls give
-abbrev pub given_by : Stream → List Call → List Placed
-given_by s [] = []
-given_by s (call ∷ calls) = given_with s call ++ given_by (with_call s call) calls
+abbrev pub given_from : Stream → List Call → List Placed
+given_from s [] = []
+given_from s (call ∷ calls) = given_with s call ++ given_from (with_call s call) calls
+
+-- what calls on a new decoder leave
+abbrev pub decoder_of : List Call → Stream
+decoder_of calls = with_calls opened calls
+
+-- the packets that they give
+abbrev pub given_by : List Call → List Placed
+given_by calls = given_from opened calls
 
 -- the bytes that calls feed
 abbrev pub fed_by : List Call → List ℕ

@@ -11,8 +11,8 @@ use Rattle.chdr_stream.specs.Capture.{IsCaptureOf, Reason, bad, truncated, captu
 use Rattle.chdr_packets.specs.Laws.{IsBytes}
 use Rattle.chdr_stream.specs.FirstFault.{IsLongestFront, IsFirstFault}
 use Rattle.chdr_stream.specs.Places.{packets_of, ArePlaced}
-use Rattle.chdr_stream.specs.Stream.{Answers, Stream, reading, answer_at, finish_at, passing_at}
-use Rattle.chdr_stream.specs.Calls.{Call, fed_with_call, given, given_with, opened, with_call, with_calls, given_by, fed_by, IsRead, IsDrained, stop_at}
+use Rattle.chdr_stream.specs.Stream.{Answers, Stream, reading, finish_at, passing_at}
+use Rattle.chdr_stream.specs.Calls.{Call, answer_of, decoder_of, fed_with_call, given, given_from, given_with, with_call, with_calls, given_by, fed_by, IsRead, IsDrained, stop_at}
 
 -- the packets that are shown of bytes
 abbrev pub shown : List ℕ → List Packet
@@ -68,34 +68,46 @@ without_packet (Err fault) = Err fault
 
 -- what `pass` answers is what `next` would, without the packet
 abbrev pub PassTells : Type 0
-PassTells = (s : Stream) → passing_at s (reading s) ≡ without_packet (answer_at s (reading s))
+PassTells = (s : Stream) → passing_at s (reading s) ≡ without_packet (answer_of s)
 
 -- as long as no fault stands, the bytes fed are the packets given and the bytes kept
 abbrev pub KeepsRest : Type 0
-KeepsRest = (calls : List Call) → IsBytes (fed_by calls) → (with_calls opened calls).fault ≡ None
-    → IsRead (fed_by calls) (given_by opened calls) (with_calls opened calls).at (with_calls opened calls).kept
+KeepsRest = (calls : List Call) → IsBytes (fed_by calls) → (decoder_of calls).fault ≡ None
+    → IsRead (fed_by calls) (given_by calls) (decoder_of calls).at (decoder_of calls).kept
 
 -- a fault answered is the first fault of the bytes fed, whatever follows them, and the packets given are those before it
 abbrev pub NamesFault : Type 0
 NamesFault = (calls : List Call) (more : List ℕ) (at : ℕ) (fault : PacketFault) → IsBytes (fed_by calls ++ more)
-    → answer_at (with_calls opened calls) (reading (with_calls opened calls)) ≡ Err (Bad at fault)
-    → IsFirstFault (fed_by calls ++ more) at (bad fault) × ArePlaced 0 (given_by opened calls) (take at (fed_by calls ++ more))
+    → answer_of (decoder_of calls) ≡ Err (Bad at fault)
+    → IsFirstFault (fed_by calls ++ more) at (bad fault) × ArePlaced 0 (given_by calls) (take at (fed_by calls ++ more))
 
 -- the place at which the end is refused is the first fault of the bytes fed
 abbrev pub NamesCut : Type 0
-NamesCut = (calls : List Call) (at : ℕ) → IsBytes (fed_by calls) → reading (with_calls opened calls) ≡ Ok None
-    → finish_at (with_calls opened calls) ≡ Err (finishes.Truncated at) → IsFirstFault (fed_by calls) at truncated
+NamesCut = (calls : List Call) (at : ℕ) → IsBytes (fed_by calls) → reading (decoder_of calls) ≡ Ok None
+    → finish_at (decoder_of calls) ≡ Err (finishes.Truncated at) → IsFirstFault (fed_by calls) at truncated
 
 -- where the end is accepted the bytes fed are a capture of the packets given
 abbrev pub EndsWhole : Type 0
-EndsWhole = (calls : List Call) → IsBytes (fed_by calls) → reading (with_calls opened calls) ≡ Ok None
-    → finish_at (with_calls opened calls) ≡ Ok tt → ArePlaced 0 (given_by opened calls) (fed_by calls)
+EndsWhole = (calls : List Call) → IsBytes (fed_by calls) → reading (decoder_of calls) ≡ Ok None
+    → finish_at (decoder_of calls) ≡ Ok tt → ArePlaced 0 (given_by calls) (fed_by calls)
 
 -- once no packet is there, the bytes fed alone tell what was given and at which fault the stream stands
 abbrev pub IsAnyCut : Type 0
-IsAnyCut = (calls : List Call) → IsBytes (fed_by calls) → IsDrained (with_calls opened calls)
-    → capture_of (fed_by calls) ≡ record { items = given_by opened calls; fault = stop_at (with_calls opened calls) (reading (with_calls opened calls)) }
+IsAnyCut = (calls : List Call) → IsBytes (fed_by calls) → IsDrained (decoder_of calls)
+    → capture_of (fed_by calls) ≡ record { items = given_by calls; fault = stop_at (decoder_of calls) (reading (decoder_of calls)) }
+
+-- two decoders gave the same packets, and answer the same
+pub record IsSame (a b : Stream) (given_a given_b : List Placed) : Type 0 where
+  pub packets : given_a ≡ given_b
+  pub answers : answer_of a ≡ answer_of b
+  pub ends : reading a ≡ Ok None → finish_at a ≡ finish_at b
+
+-- lists of calls that feed the same bytes, each until no packet is there, leave the same
+abbrev pub IsSameCut : Type 0
+IsSameCut = (calls others : List Call) → IsBytes (fed_by calls) → fed_by calls ≡ fed_by others
+    → IsDrained (decoder_of calls) → IsDrained (decoder_of others)
+    → IsSame (decoder_of calls) (decoder_of others) (given_by calls) (given_by others)
 
 -- at a fault no call changes or gives anything
 abbrev pub StaysAtFault : Type 0
-StaysAtFault = (s : Stream) (fault : PacketFault) (calls : List Call) → s.fault ≡ Some fault → (with_calls s calls ≡ s) × (given_by s calls ≡ [])
+StaysAtFault = (s : Stream) (fault : PacketFault) (calls : List Call) → s.fault ≡ Some fault → (with_calls s calls ≡ s) × (given_from s calls ≡ [])

@@ -1,7 +1,7 @@
 //! What holds of captures and of every list of calls; each law is a function that does nothing and promises it.
 //!
 //! Rule: docs/wire-format.md, "Captures".
-ghost use Rattle.chdr_stream.specs.Laws.{EndsWhole, HasNone, HasOne, IsACall, IsAnyCut, IsWholeOrFaulty, KeepsRest, NamesCut, NamesFault, PassTells, ShowsCaptures, ShowsFirstFault, ShowsLongest, ShowsOnly, ShowsPlaces, StaysAtFault};
+ghost use Rattle.chdr_stream.specs.Laws.{EndsWhole, HasNone, HasOne, IsACall, IsAnyCut, IsSameCut, IsWholeOrFaulty, KeepsRest, NamesCut, NamesFault, PassTells, ShowsCaptures, ShowsFirstFault, ShowsLongest, ShowsOnly, ShowsPlaces, StaysAtFault};
 
 /// Bytes show no fault exactly where they are a capture of the packets shown, and of these alone.
 pub fn captures_show_no_fault()
@@ -32,7 +32,8 @@ pub fn calls_do_what_clauses_say()
 /// The bytes fed are the packets given and the bytes kept, in whatever pieces they came.
 pub fn any_cut_gives_the_same()
     ensures rest { KeepsRest }
-    ensures same { IsAnyCut }
+    ensures shown { IsAnyCut }
+    ensures same { IsSameCut }
 {}
 
 /// A fault of a packet or at the end is the first fault of the bytes fed, and stays.
