@@ -22,4 +22,8 @@ pub use texts::report;
 pub use top::rfnoc;
 
 #[cfg(test)]
+mod capture_tests;
+#[cfg(test)]
+mod key_tests;
+#[cfg(test)]
 mod tests;

@@ -6,12 +6,11 @@ use rf_outside::{CountList, MemSink, MemSource};
 use std::alloc::{AllocError, Global};
 use std::test::Fail;
 
-const REPORT: &str =
+pub(crate) const REPORT: &str =
     "0 net nodes 2 links 1\n1 block 0 tx\n2 block 1 rx\n3 connect stream 0\n4 set\n5 set\n6 set\n7 commit\n8 run streams 1\nstream 0 1>2 sent 3 delivered 3 acked 3 epochs 1 drained\nrx 1 packets 3 samples 6 first 0 last 5\ndone commands 9 refused 0 undrained 0\n";
 
-const SCRIPT: &str = r#"{"rfnoc":1,"commands":[
-{"do":"net","nodes":[{"kind":"host","epid":1},{"kind":"host","epid":2}],
- "links":[[0,0,1,0]]},
+pub(crate) const SCRIPT: &str = r#"{"rfnoc":1,"commands":[
+{"do":"net","nodes":[{"kind":"host","epid":1},{"kind":"host","epid":2}],"links":[[0,0,1,0]]},
 {"do":"block","kind":"tx","out":[1],"packets":3},
 {"do":"block","kind":"rx","in":[2]},
 {"do":"connect","from":[0,0],"to":[1,0]},
@@ -21,30 +20,19 @@ const SCRIPT: &str = r#"{"rfnoc":1,"commands":[
 {"do":"commit"},
 {"do":"run"}]}"#;
 
-/// The same script with every object's keys the other way round, and a key that stands twice.
-const TURNED: &str = r#"{"commands":[
-{"links":[[0,0,1,0]],"nodes":[{"epid":1,"kind":"host"},{"epid":2,"kind":"host"}],"do":"net"},
-{"packets":7,"out":[1],"packets":3,"kind":"tx","do":"block"},
-{"in":[2],"kind":"rx","do":"block"},
-{"to":[1,0],"from":[0,0],"do":"connect"},
-{"value":1000000,"property":"rate","port":0,"side":"out","block":0,"do":"set"},
-{"value":4,"property":"item","port":0,"side":"out","block":0,"do":"set"},
-{"value":2,"property":"spp","port":0,"side":"out","block":0,"do":"set"},
-{"do":"commit"},{"do":"run"}],"rfnoc":1}"#;
-
 /// What a call answered, with what it wrote.
 #[derive(Drop)]
-struct Told {
-    status: u8,
-    out: MemSink,
-    books: Books,
+pub(crate) struct Told {
+    pub(crate) status: u8,
+    pub(crate) out: MemSink,
+    pub(crate) books: Books,
 }
 
-fn bytes_of(alloc: Global, bytes: &[u8]) -> Result<Bytes, AllocError> {
+pub(crate) fn bytes_of(alloc: Global, bytes: &[u8]) -> Result<Bytes, AllocError> {
     Ok(Items::from_vec(Vec::from_slice(alloc, bytes)?))
 }
 
-fn counts(alloc: Global, counts: &[u64]) -> Result<CountList, AllocError> {
+pub(crate) fn counts(alloc: Global, counts: &[u64]) -> Result<CountList, AllocError> {
     Ok(Items::from_vec(Vec::from_slice(alloc, counts)?))
 }
 
@@ -57,7 +45,7 @@ fn words_of(alloc: Global, words: &[&str]) -> Result<Vec<String>, Fail> {
 }
 
 /// Calls the program with a sink that cuts and fails by lists.
-fn call(
+pub(crate) fn call(
     alloc: Global,
     words: &[&str],
     mut src: MemSource,
@@ -74,7 +62,7 @@ fn call(
 }
 
 /// Runs these bytes with ample of everything.
-fn run(alloc: Global, bytes: &[u8]) -> Result<Told, Fail> {
+pub(crate) fn run(alloc: Global, bytes: &[u8]) -> Result<Told, Fail> {
     let src = MemSource::new(
         bytes_of(alloc, bytes)?,
         Items::new(alloc),
@@ -116,8 +104,11 @@ fn a_straight_script_is_performed_and_reported(rt: HostRuntime) -> Result<(), Fa
 }
 
 #[test]
-fn keys_stand_in_any_order(rt: HostRuntime) -> Result<(), Fail> {
-    let told = run(rt.alloc(), TURNED.as_bytes())?;
+fn of_equal_keys_the_last_counts(rt: HostRuntime) -> Result<(), Fail> {
+    let twice = r#""packets":7,"out":[1],"packets":3"#;
+    let text = SCRIPT.replace(rt.alloc(), r#""out":[1],"packets":3"#, twice)?;
+    let told = run(rt.alloc(), text.as_bytes())?;
+    assert_eq!(rt; text.len(), SCRIPT.len() + 12);
     assert_eq!(rt; told.status, 0);
     assert_eq!(rt; told.out.kept(), REPORT.as_bytes());
     Ok(())
@@ -154,13 +145,19 @@ fn a_script_has_at_most_a_mebibyte(rt: HostRuntime) -> Result<(), Fail> {
 
 #[test]
 fn other_words_are_a_usage_fault(rt: HostRuntime) -> Result<(), Fail> {
-    let rows: [&[&str]; 6] = [
+    let rows: [&[&str]; 12] = [
         &[],
+        &[""],
         &["run"],
         &["run", "--two"],
         &["--one", "run"],
         &["run", "--one", ""],
-        &["show"],
+        &["show", "x"],
+        &["show", ""],
+        &["check", "--one"],
+        &["Check"],
+        &["check "],
+        &["show", "check"],
     ];
     for words in rows {
         let src = MemSource::new(
@@ -248,16 +245,9 @@ fn a_failing_write_leaves_a_prefix_of_the_report(rt: HostRuntime) -> Result<(), 
     Ok(())
 }
 
-/// The script with these numbers in it.
-fn script_of(
-    alloc: Global,
-    from: &str,
-    to: &str,
-    packets: &str,
-    rate: &str,
-    item: &str,
-    spp: &str,
-) -> Result<String, AllocError> {
+/// The script with these numbers in it: both endpoints, packets, rate, item and spp.
+fn script_of(alloc: Global, numbers: [&str; 6]) -> Result<String, AllocError> {
+    let [from, to, packets, rate, item, spp] = numbers;
     let mut text = String::new(alloc);
     let pieces = [
         r#"{"rfnoc":1,"commands":[{"do":"net","nodes":[{"kind":"host","epid":"#,
@@ -284,41 +274,31 @@ fn script_of(
     Ok(text)
 }
 
+/// For each number of a script the values that it may have, and the values that it may not.
+const RANGES: [(&[&str], &[&str]); 6] = [
+    (&["1", "65535"], &["0", "65536", "9"]),
+    (&["1", "65535"], &["0", "65536", "7"]),
+    (&["1", "16384"], &["0", "16385", "-3", "3.0", "3e0"]),
+    (
+        &["1", "18446744073709551615"],
+        &["0", "18446744073709551616"],
+    ),
+    (&["4", "8"], &["3", "5", "7", "9", "12"]),
+    (&["1", "1022"], &["0", "1023"]),
+];
+
 #[test]
 fn each_number_has_its_range(rt: HostRuntime) -> Result<(), Fail> {
-    let rows = [
-        ("1", "2", "3", "1", "4", "1", true),
-        (
-            "65535",
-            "1",
-            "16384",
-            "18446744073709551615",
-            "8",
-            "1022",
-            true,
-        ),
-        ("0", "2", "3", "1", "4", "1", false),
-        ("65536", "2", "3", "1", "4", "1", false),
-        ("2", "2", "3", "1", "4", "1", false),
-        ("1", "2", "0", "1", "4", "1", false),
-        ("1", "2", "16385", "1", "4", "1", false),
-        ("1", "2", "3", "0", "4", "1", false),
-        ("1", "2", "3", "18446744073709551616", "4", "1", false),
-        ("1", "2", "3", "1", "5", "1", false),
-        ("1", "2", "3", "1", "12", "1", false),
-        ("1", "2", "3", "1", "4", "0", false),
-        ("1", "2", "3", "1", "4", "1023", false),
-        ("1", "2", "3.0", "1", "4", "1", false),
-        ("1", "2", "-3", "1", "4", "1", false),
-    ];
-    for (from, to, packets, rate, item, spp, fits) in rows {
-        let text = script_of(rt.alloc(), from, to, packets, rate, item, spp)?;
-        let read = read_form(rt.alloc(), text.as_bytes())?;
-        assert_eq!(rt;
-            read.is_some(),
-            fits,
-            "{from} {to} {packets} {rate} {item} {spp}"
-        );
+    for (place, (inside, outside)) in RANGES.into_iter().enumerate() {
+        for (values, status) in [(inside, 0), (outside, 6)] {
+            for value in values {
+                let mut numbers = ["7", "9", "3", "5", "4", "2"];
+                numbers[place] = *value;
+                let text = script_of(rt.alloc(), numbers)?;
+                let told = run(rt.alloc(), text.as_bytes())?;
+                assert_eq!(rt; told.status, status, "{place} {value}");
+            }
+        }
     }
     Ok(())
 }
@@ -339,7 +319,7 @@ fn a_script_is_read_into_its_numbers(rt: HostRuntime) -> Result<(), Fail> {
 
 #[test]
 fn a_run_moves_every_packet_into_its_book(rt: HostRuntime) -> Result<(), Fail> {
-    let text = script_of(rt.alloc(), "9", "7", "100", "5", "8", "3")?;
+    let text = script_of(rt.alloc(), ["9", "7", "100", "5", "8", "3"])?;
     let told = run(rt.alloc(), text.as_bytes())?;
     assert_eq!(rt; told.status, 0);
     for book in told.books.list.as_slice() {
