@@ -14,3 +14,11 @@ pub record Page (begun now : Option (List ℕ)) (text : List ℕ) (counts : Coun
 -- a first part of the lines was written
 abbrev pub Torn : Option (List ℕ) → Option (List ℕ) → List Placed → Type 0
 Torn begun now done = AddsPrefix begun now (lines_of done)
+
+-- whatever lines the text belongs to, they go on: all that isn't in the text was written
+abbrev pub GoesOn : Option (List ℕ) → Option (List ℕ) → List ℕ → List ℕ → Type 0
+GoesOn old now text kept = (begun : Option (List ℕ)) (lines : List ℕ) → AddsUpTo begun old lines text → AddsUpTo begun now lines kept
+
+-- a first part of them was written
+abbrev pub BreaksOff : Option (List ℕ) → Option (List ℕ) → List ℕ → Type 0
+BreaksOff old now text = (begun : Option (List ℕ)) (lines : List ℕ) → AddsUpTo begun old lines text → AddsPrefix begun now lines

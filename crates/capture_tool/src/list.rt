@@ -5,7 +5,7 @@ ghost use Rattle.rf_outside.specs.Bytes.{Adds, AddsPrefix, AddsUpTo};
 ghost use Rattle.rf_outside.specs.Causes.{Rose};
 ghost use Rattle.chdr_stream.specs.declared.placed.Placed.{Placed};
 ghost use Rattle.capture_tool.specs.Listing.{last_line, lines_of, listed, ops_of};
-ghost use Rattle.capture_tool.specs.Page.{Page, Torn};
+ghost use Rattle.capture_tool.specs.Page.{BreaksOff, GoesOn, Page, Torn};
 ghost use Rattle.capture_tool.specs.Seen.{Began, Bounded, Finds, Leaves, Scanned, fault_of, one_more};
 
 use crate::line::put_line;
@@ -24,11 +24,9 @@ const ROOM: usize = FULL + 1024;
 
 /// Writes the text and begins anew.
 fn flush<K: Sink>(out: &mut K, text: &mut Vec<u8>) -> Result<(), Stop>
-    ensures whole { OnOk result ((begun : Option (List ℕ)) (lines : List ℕ) →
-        AddsUpTo begun (K.written out.old) lines text.old.items → AddsUpTo begun (K.written out.new) lines text.new.items) }
+    ensures whole { OnOk result (GoesOn (K.written out.old) (K.written out.new) text.old.items text.new.items) }
     ensures empty { OnOk result (text.new.items ≡ []) }
-    ensures prefix { OnErr result ((begun : Option (List ℕ)) (lines : List ℕ) →
-        AddsUpTo begun (K.written out.old) lines text.old.items → AddsPrefix begun (K.written out.new) lines) }
+    ensures prefix { OnErr result (BreaksOff (K.written out.old) (K.written out.new) text.old.items) }
     ensures only { IfErr result (λ stop. stop ≡ Stop.Write) }
     ensures fault { OnErr result (Rose (K.faults out.old) (K.faults out.new)) }
     ensures later { K.faults out.old ≤ K.faults out.new }
@@ -44,10 +42,8 @@ fn flush<K: Sink>(out: &mut K, text: &mut Vec<u8>) -> Result<(), Stop>
 
 /// Writes the text where there is much of it.
 fn flush_full<K: Sink>(out: &mut K, text: &mut Vec<u8>) -> Result<(), Stop>
-    ensures whole { OnOk result ((begun : Option (List ℕ)) (lines : List ℕ) →
-        AddsUpTo begun (K.written out.old) lines text.old.items → AddsUpTo begun (K.written out.new) lines text.new.items) }
-    ensures prefix { OnErr result ((begun : Option (List ℕ)) (lines : List ℕ) →
-        AddsUpTo begun (K.written out.old) lines text.old.items → AddsPrefix begun (K.written out.new) lines) }
+    ensures whole { OnOk result (GoesOn (K.written out.old) (K.written out.new) text.old.items text.new.items) }
+    ensures prefix { OnErr result (BreaksOff (K.written out.old) (K.written out.new) text.old.items) }
     ensures only { IfErr result (λ stop. stop ≡ Stop.Write) }
     ensures fault { OnErr result (Rose (K.faults out.old) (K.faults out.new)) }
     ensures later { K.faults out.old ≤ K.faults out.new }

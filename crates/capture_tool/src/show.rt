@@ -13,6 +13,8 @@ use std::alloc::Global;
 /// Writes a line for each packet of a capture as it is read, and a last line.
 ///
 /// The status is 0, or 7 at a fault; 3 where a read failed, 4 where a write did, 5 for want of memory.
+/// Lines are kept until they come to 64 KiB, and those that are kept at a failed read aren't written.
+/// The lines are drawn in specs/Listing.antt.
 pub fn show_capture<S: Source, K: Sink>(alloc: Global, src: &mut S, out: &mut K) -> u8
     ensures statuses { (result ≡ 0) ⊎ (result ≡ 3) ⊎ (result ≡ 4) ⊎ (result ≡ 5) ⊎ (result ≡ 7) }
     ensures told { (result ≡ 0) ⊎ (result ≡ 7) →

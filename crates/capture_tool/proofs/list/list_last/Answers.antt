@@ -21,6 +21,6 @@ returns-clause-whole g c =
     let told : Whole → c.flush.new.text.items ≡ [] → Told
     = λ whole empty begun lines u.
     up_to-whole begun (g.K.Sink.written c.flush.new.out) (lines ++ last) c.flush.new.text.items empty
-    (whole begun (lines ++ last) (subst (λ (t : List ℕ). AddsUpTo begun (g.K.Sink.written c.args.out.now) (lines ++ last) t) (sym c.in_ok-put_last.ensures)
+    (whole begun (lines ++ last) (subst (λ (t : List ℕ). AddsUpTo begun (g.K.Sink.written c.args.out.now) (lines ++ last) t) (sym {A = List ℕ} c.in_ok-put_last.ensures)
     (up_to-append begun (g.K.Sink.written c.args.out.now) lines c.args.text.now.items last u))) in
     on_ok c.flush.result Whole (c.flush.new.text.items ≡ []) Told told c.flush.ensures.whole c.flush.ensures.empty
