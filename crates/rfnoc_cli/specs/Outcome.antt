@@ -4,12 +4,13 @@ use Rattle.rf_outside.specs.Bytes.{Adds, AddsPrefix}
 use Rattle.capture_tool.specs.Outcome.{Told, status_of}
 use Rattle.capture_tool.specs.Seen.{fault_of}
 use Rattle.capture_tool.specs.Text.{checked}
+use Rattle.capture_tool.specs.Listing.{listed}
 use Rattle.rfnoc_cli.specs.Form.{IsScript, IsRefused}
 use Rattle.rfnoc_cli.specs.TopCall.{IsDone, WritesPrefix, not_built}
 use Rattle.rfnoc_cli.specs.declared.book.Book.{Book}
 use Rattle.rfnoc_cli.specs.declared.straight.Straight.{Straight}
 use Rattle.rfnoc_cli.specs.declared.words.Form.{Form}
-use Rattle.rfnoc_cli.specs.declared.words.Form.TheVariants.{RunOne, Check}
+use Rattle.rfnoc_cli.specs.declared.words.Form.TheVariants.{RunOne, Show, Check}
 
 -- `run --one`, over a source that had these bytes left, and a sink before and after
 pub record IsRunOutcome {K : Type 0} (left : Option (List ℕ)) (written : K → Option (List ℕ)) (old new : K)
@@ -37,6 +38,7 @@ pub record IsCheckOutcome (left old new : Option (List ℕ)) (status : ℕ) : Ty
 abbrev pub IsOutcome : {K : Type 0} → Option Form → Option (List ℕ) → (K → Option (List ℕ)) → K → K → List Book → ℕ → Type 0
 IsOutcome None left written old new books status = status ≡ 2
 IsOutcome (Some RunOne) left written old new books status = IsRunOutcome left written old new books status
+IsOutcome (Some Show) left written old new books status = IsCaptureOutcome listed left (written old) (written new) status × (books ≡ [])
 IsOutcome (Some Check) left written old new books status = IsCheckOutcome left (written old) (written new) status × (books ≡ [])
 
 -- `run --one` of these bytes, where nothing fails
@@ -48,4 +50,5 @@ pub record IsRunStatus (bytes : List ℕ) (status : ℕ) : Type 0 where
 abbrev pub IsStatus : Option Form → List ℕ → ℕ → Type 0
 IsStatus None bytes status = status ≡ 2
 IsStatus (Some RunOne) bytes status = IsRunStatus bytes status
+IsStatus (Some Show) bytes status = status ≡ status_of (fault_of bytes)
 IsStatus (Some Check) bytes status = status ≡ status_of (fault_of bytes)

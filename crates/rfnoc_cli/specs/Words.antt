@@ -3,11 +3,12 @@ use Rattle.std.specs.Prelude.{ℕ, List, [], ◌∷◌, ◌&&◌, if◌then◌el
 use Rattle.std.specs.declared.alloc.Global.{Global}
 use Rattle.std.specs.Str.{bytes_eq}
 use Rattle.rfnoc_cli.specs.declared.words.Form.{Form}
-use Rattle.rfnoc_cli.specs.declared.words.Form.TheVariants.{RunOne, Check}
+use Rattle.rfnoc_cli.specs.declared.words.Form.TheVariants.{RunOne, Show, Check}
 
--- `check`
+-- `show`, `check`
 abbrev pub one_word : List ℕ → Option Form
-one_word word = if bytes_eq word (codes "check") then Some Check else None
+one_word word = if bytes_eq word (codes "show") then Some Show
+    else if bytes_eq word (codes "check") then Some Check else None
 
 -- `run --one`
 abbrev pub two_words : List ℕ → List ℕ → Option Form

@@ -73,30 +73,101 @@ const ROWS: [Row; 9] = [
 ];
 
 #[test]
-fn captures_are_told(rt: HostRuntime) -> Result<(), Fail> {
-    for (bytes, _shown, checked, status) in ROWS {
-        let told = tell(rt.alloc(), "check", bytes, &[])?;
-        assert_eq!(rt; told.status, status);
-        assert_eq!(rt; told.out.kept(), checked.as_bytes());
-        assert_eq!(rt; told.books.list.len(), 0);
+fn captures_are_listed_and_checked(rt: HostRuntime) -> Result<(), Fail> {
+    for (bytes, listed, checked, status) in ROWS {
+        for (form, text) in [("show", listed), ("check", checked)] {
+            let told = tell(rt.alloc(), form, bytes, &[])?;
+            assert_eq!(rt; told.status, status, "{form} {text}");
+            assert_eq!(rt; told.out.kept(), text.as_bytes());
+            assert_eq!(rt; told.books.list.len(), 0);
+        }
     }
     Ok(())
 }
 
 #[test]
 fn a_cut_changes_nothing(rt: HostRuntime) -> Result<(), Fail> {
+    let (_, listed, checked, _) = ROWS[0];
     for cut in 1..16 {
-        let told = tell(rt.alloc(), "check", DATA, &[cut])?;
-        assert_eq!(rt; told.status, 0, "cut {cut}");
-        assert_eq!(rt; told.out.kept(), b"packets 1 canonical 1\n".as_slice());
+        for (form, text) in [("show", listed), ("check", checked)] {
+            let told = tell(rt.alloc(), form, DATA, &[cut])?;
+            assert_eq!(rt; told.status, 0, "{form} {cut}");
+            assert_eq!(rt; told.out.kept(), text.as_bytes());
+        }
     }
     Ok(())
 }
 
 #[test]
 fn a_packet_that_ends_early_is_a_fault(rt: HostRuntime) -> Result<(), Fail> {
-    let told = tell(rt.alloc(), "check", &DATA[..15], &[])?;
-    assert_eq!(rt; told.status, 7);
-    assert_eq!(rt; told.out.kept(), b"fault Truncated at 0\n".as_slice());
+    for form in ["show", "check"] {
+        let told = tell(rt.alloc(), form, &DATA[..15], &[])?;
+        assert_eq!(rt; told.status, 7);
+        assert_eq!(rt; told.out.kept(), b"fault Truncated at 0\n".as_slice());
+    }
+    Ok(())
+}
+
+/// Two data packets, what is listed of them, and what check says.
+fn two(alloc: Global) -> Result<(Vec<u8>, String), Fail> {
+    let mut bytes = Vec::from_slice(alloc, DATA)?;
+    bytes.extend_from_slice(DATA)?;
+    let line = "data vc 0 eob 0 eov 0 seq 0 dst 2 meta 0 time - bytes 8";
+    let listed = format!(in alloc; "0 {line}\n16 {line}\npackets 2\n")?;
+    Ok((bytes, listed))
+}
+
+const TWO_CHECKED: &str = "packets 2 canonical 2\n";
+
+#[test]
+fn a_failing_read_leaves_a_first_part(rt: HostRuntime) -> Result<(), Fail> {
+    let (bytes, listed) = two(rt.alloc())?;
+    for (form, text) in [("show", listed.as_str()), ("check", TWO_CHECKED)] {
+        for fail in 0..5 {
+            let src = MemSource::new(
+                bytes_of(rt.alloc(), bytes.as_slice())?,
+                counts(rt.alloc(), &[16, 16])?,
+                counts(rt.alloc(), &[fail])?,
+            );
+            let told = call(
+                rt.alloc(),
+                &[form],
+                src,
+                Items::new(rt.alloc()),
+                Items::new(rt.alloc()),
+            )?;
+            // The third read finds the end.
+            let reached = fail <= 2;
+            let whole = told.out.kept() == text.as_bytes();
+            assert_eq!(rt; told.status, if reached { 3 } else { 0 }, "{form} {fail}");
+            assert_eq!(rt; whole, !reached, "{form} {fail}");
+            assert!(rt; text.as_bytes().starts_with(told.out.kept()));
+        }
+    }
+    Ok(())
+}
+
+#[test]
+fn a_failing_write_leaves_a_first_part(rt: HostRuntime) -> Result<(), Fail> {
+    let (bytes, listed) = two(rt.alloc())?;
+    for (form, text) in [("show", listed.as_str()), ("check", TWO_CHECKED)] {
+        for fail in 0..40 {
+            let src = MemSource::new(
+                bytes_of(rt.alloc(), bytes.as_slice())?,
+                Items::new(rt.alloc()),
+                Items::new(rt.alloc()),
+            );
+            let told = call(
+                rt.alloc(),
+                &[form],
+                src,
+                counts(rt.alloc(), &[5; 64])?,
+                counts(rt.alloc(), &[fail])?,
+            )?;
+            let whole = told.out.kept() == text.as_bytes();
+            assert_eq!(rt; told.status, if whole { 0 } else { 4 }, "{form} {fail}");
+            assert!(rt; text.as_bytes().starts_with(told.out.kept()));
+        }
+    }
     Ok(())
 }

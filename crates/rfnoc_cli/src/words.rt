@@ -5,6 +5,7 @@ ghost use Rattle.rfnoc_cli.specs.Words.{one_word, two_words, form_of_words};
 #[derive(Clone, Copy, Debug, PartialEq, Eq)]
 pub enum Form {
     RunOne,
+    Show,
     Check,
 }
 
@@ -23,7 +24,9 @@ pub(crate) fn form_of_words(words: &[String]) -> Option<Form>
 fn one_word(word: &str) -> Option<Form>
     ensures { result ≡ one_word word.now }
 {
-    if word == "check" {
+    if word == "show" {
+        Some(Form::Show)
+    } else if word == "check" {
         Some(Form::Check)
     } else {
         None
