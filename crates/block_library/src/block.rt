@@ -1,4 +1,4 @@
-ghost use Rattle.std.specs.Prelude.{IsTrue, ◌≡◌, ◌==◌, ◌%◌, ◌/◌, ◌<◌, ◌⊎◌, ◌∷◌, ℕ, List, [], Option, Some, None, IfOk, OnOk, OnErr, slice_get, ◌+◌, vec_len, vec_capacity, if◌then◌else◌};
+ghost use Rattle.std.specs.Prelude.{IsTrue, ◌↔◌, ◌≡◌, ◌==◌, ◌%◌, ◌/◌, ◌<◌, ◌⊎◌, ◌∷◌, ℕ, List, [], Option, Some, None, IfOk, OnOk, OnErr, slice_get, ◌+◌, vec_len, vec_capacity, if◌then◌else◌};
 ghost use Rattle.block_library.specs.Blocks.{FitsKind, HoldsSamples, IsFeed, Lists, inputs, closes};
 ghost use Rattle.block_library.specs.Memory.{StandsFor, GoesOn, lists, counted, kept_of, gives, made, after_feed, next_phase, next_group, block_registers};
 
@@ -74,6 +74,8 @@ impl Block {
     pub fn takes(&self, port: u16, packet: &Packet) -> bool
         ensures port { IsTrue result → port < inputs self.now.kept.kind }
         ensures feed { IsTrue result → IsFeed self.now.kept.item packet.now }
+        ensures every { port < inputs self.now.kept.kind → IsFeed self.now.kept.item packet.now →
+            IsTrue result }
     {
         let inputs = match self.kind {
             BlockKind::Tx => 0,
@@ -276,7 +278,7 @@ impl Block {
 /// Whether a body holds whole samples.
 fn holds_samples(item: u32, body: &Body) -> bool
     requires { (item ≡ 4) ⊎ (item ≡ 8) }
-    ensures { IsTrue result → HoldsSamples item body.now }
+    ensures { IsTrue result ↔ HoldsSamples item body.now }
 {
     match body {
         Body::Samples { time: _, payload } => payload.len() % item as usize == 0,

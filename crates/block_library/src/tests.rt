@@ -4,7 +4,7 @@ ghost use Rattle.block_library.specs.Blocks.{FitsKind};
 use crate::{Block, BlockKind, TxPlan};
 use chdr_packets::{Body, Packet};
 use chdr_words::Epid;
-use rf_base::Items;
+use rf_base::{Copyable, Items};
 use std::alloc::Global;
 use std::test::Fail;
 
@@ -219,6 +219,12 @@ fn a_group_is_whole_at_its_64th_packet(rt: HostRuntime) -> Result<(), Fail> {
     for (count, given) in [(63, 0), (64, 192), (65, 192), (127, 192), (128, 384)] {
         assert_eq!(rt; replayed(rt.alloc(), count)?, given);
     }
+    Ok(())
+}
+
+#[test]
+fn a_kind_is_copied(rt: HostRuntime) -> Result<(), Fail> {
+    assert_eq!(rt; BlockKind::Keep(4).copy()?, BlockKind::Keep(4));
     Ok(())
 }
 
