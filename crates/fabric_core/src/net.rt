@@ -53,6 +53,7 @@ impl Net {
         ensures made { IfOk result (λ net. net.made ≡ plain plan ∷ []) }
         ensures machine { IfOk result (λ net. Stands net (start plan)) }
         ensures journal { IfOk result (λ net. net.journal ≡ []) }
+        ensures prepared { IfOk result (λ net. net.prepared ≡ None) }
     {
         let queue = Queue::new(alloc)?;
         let queues = one(alloc, queue)?;
@@ -140,6 +141,7 @@ impl Net {
         ensures machine { (w : State) → Stands self.old w → Stands self.new w }
         ensures journal { self.new.journal ≡ self.old.journal }
         ensures next { result ≡ slice_get (stand_at self.old.present.stands s).waiting 0 }
+        ensures prepared { self.new.prepared ≡ None }
     {
         self.prepared = None;
         hand(&mut self.tracked, s as usize)

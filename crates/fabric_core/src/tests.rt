@@ -4,6 +4,7 @@ ghost use Rattle.block_library.specs.Producer.{FitsPlan};
 use crate::{Event, Net, StreamEnd, Tally};
 use block_library::TxPlan;
 use chdr_words::Epid;
+use rf_base::Copyable;
 use std::test::Fail;
 
 fn plan(packets: u32) -> TxPlan
@@ -80,5 +81,11 @@ fn a_link_holds_four_packets(rt: HostRuntime) -> Result<(), Fail> {
     assert!(rt; !net.enabled(Event::Enter(1)), "there is no such stream");
     assert!(rt; net.stream_count() == 1);
     assert_eq!(rt; net.end(0), StreamEnd::Undrained { sent: 4, acked: 0 });
+    Ok(())
+}
+
+#[test]
+fn an_event_is_copied(rt: HostRuntime) -> Result<(), Fail> {
+    assert_eq!(rt; Event::Seen(1, 2).copy()?, Event::Seen(1, 2));
     Ok(())
 }
