@@ -28,6 +28,10 @@ abbrev pub moved_by : List ℕ → ℕ → ℕ → ℕ
 moved_by cuts call most =
     if nat_lt call (length cuts) then min most (max 1 (slice_index cuts call)) else most
 
+-- so many bytes more are past the room
+abbrev pub is_past : ℕ → List ℕ → ℕ → Bool
+is_past room bytes more = nat_lt (room - length bytes) more
+
 -- what a sink tells of the bytes written
 abbrev pub told : List ℕ → Bool → Option (List ℕ)
 told bytes past = if past then None else Some bytes

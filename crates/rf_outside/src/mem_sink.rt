@@ -1,7 +1,7 @@
-ghost use Rattle.std.specs.Prelude.{◌≡◌, ◌↔◌, ◌≤◌, ◌<◌, ℕ, false, [], ◌++◌, length, take, Contains, IfOk, OnOk, vec_len, vec_capacity, Option, List, IsErr};
+ghost use Rattle.std.specs.Prelude.{◌≡◌, ◌↔◌, ◌≤◌, ◌<◌, ℕ, false, [], ◌++◌, length, take, Contains, IfOk, OnOk, OnErr, ◌||◌, vec_len, vec_capacity, Option, List, IsErr};
 ghost use Rattle.rf_outside.specs.Bytes.{Writes};
-ghost use Rattle.rf_outside.specs.Causes.{HasCause};
-ghost use Rattle.rf_outside.specs.Played.{moved_by, risen, told};
+ghost use Rattle.rf_outside.specs.Causes.{CountsFaults, HasCause};
+ghost use Rattle.rf_outside.specs.Played.{is_past, moved_by, risen, told};
 
 use crate::mem_source::moved;
 use crate::{CountList, Failed, Sink};
@@ -77,8 +77,13 @@ impl Sink for MemSink {
         ensures fails { IsErr result ↔ Contains self.old.fails self.old.calls }
         ensures moves { IfOk result (λ n. n ≡ moved_by self.old.cuts self.old.calls (length piece.now)) }
         ensures counts { self.new.calls ≡ risen self.old.calls }
+        ensures faults { CountsFaults self.old.faults self.new.faults result }
         ensures lists { (self.new.cuts ≡ self.old.cuts) × (self.new.fails ≡ self.old.fails) }
+        ensures room { self.new.room ≡ self.old.room }
         ensures kept { IfOk result (λ n. self.new.bytes ≡ take self.old.room (self.old.bytes ++ take n piece.now)) }
+        ensures refused { OnErr result (self.new.bytes ≡ self.old.bytes) }
+        ensures tells { IfOk result (λ n. self.new.past ≡
+            (self.old.past || is_past self.old.room self.old.bytes n)) }
     {
         let call = self.calls;
         self.calls = call.saturating_add(1);

@@ -1,7 +1,7 @@
 ghost use Rattle.std.specs.Prelude.{◌≡◌, ◌↔◌, ◌+◌, ◌≤◌, ◌++◌, ℕ, length, take, drop, min, Contains, IfOk, Option, List, Some, IsErr};
 ghost use Rattle.std.specs.Io.{ReadsAtMost};
 ghost use Rattle.std.specs.Io.KnownBytes.{ReadConsumes};
-ghost use Rattle.rf_outside.specs.Causes.{HasCause};
+ghost use Rattle.rf_outside.specs.Causes.{CountsFaults, HasCause};
 ghost use Rattle.rf_outside.specs.Played.{moved_by, risen};
 
 use crate::{Failed, Source};
@@ -64,6 +64,7 @@ impl Source for MemSource {
         ensures moves { IfOk result (λ n. n ≡
             moved_by self.old.cuts self.old.calls (min (length buf.old) (length self.old.left))) }
         ensures counts { self.new.calls ≡ risen self.old.calls }
+        ensures faults { CountsFaults self.old.faults self.new.faults result }
         ensures lists { (self.new.cuts ≡ self.old.cuts) × (self.new.fails ≡ self.old.fails) }
     {
         let call = self.calls;

@@ -1,9 +1,9 @@
-ghost use Rattle.std.specs.Prelude.{◌≡◌, ℕ, false, [], ◌++◌, length, take, IfOk, IsOk, Option, List, Some};
+ghost use Rattle.std.specs.Prelude.{◌≡◌, ℕ, false, [], ◌++◌, ◌||◌, length, min, take, IfOk, IsOk, Option, List, Some};
 ghost use Rattle.std.specs.Io.{ReadsAtMost};
 ghost use Rattle.std.specs.Io.KnownBytes.{ReadConsumes};
 ghost use Rattle.rf_outside.specs.Bytes.{Writes};
 ghost use Rattle.rf_outside.specs.Causes.{HasCause};
-ghost use Rattle.rf_outside.specs.Played.{told};
+ghost use Rattle.rf_outside.specs.Played.{is_past, told};
 
 use crate::mem_sink::keep;
 use crate::mem_source::give;
@@ -48,6 +48,7 @@ impl Source for SureSource {
         ensures bytes { ReadConsumes (Some self.old) (Some self.new) result buf.new }
         ensures cause { HasCause 0 0 result }
         ensures reads { IsOk result }
+        ensures moves { IfOk result (λ n. n ≡ min (length buf.old) (length self.old)) }
     {
         let count = buf.len().min(self.bytes.len() - self.at);
         give(self.bytes.as_slice(), self.at, count, buf);
@@ -108,7 +109,10 @@ impl Sink for SureSink {
         ensures cause { HasCause 0 0 result }
         ensures takes { IfOk result (λ n. n ≡ length piece.now) }
         ensures sure { IsOk result }
+        ensures room { self.new.room ≡ self.old.room }
         ensures kept { self.new.bytes ≡ take self.old.room (self.old.bytes ++ piece.now) }
+        ensures tells { self.new.past ≡
+            (self.old.past || is_past self.old.room self.old.bytes (length piece.now)) }
     {
         self.past = self.past || self.room - self.bytes.len() < piece.len();
         keep(&mut self.bytes, self.room, piece);
