@@ -1,4 +1,6 @@
-//! Packets from pieces of a byte stream.
+//! Packets from pieces of a byte stream, the same however it was cut, and the first fault where it has one.
+//!
+//! What holds of captures and of every list of calls stands in laws.rt.
 #![tactic(auto)]
 
 mod decoder;
