@@ -56,7 +56,8 @@ fn put_time(out: &mut Vec<u8>, time: Option<u64>) -> Result<(), Memory>
 }
 
 fn put_status_start(out: &mut Vec<u8>, status: &Status) -> Result<(), Memory>
-    ensures { OnOk result (out.new.items ≡ out.old.items ++ (codes " code " & status_code_text status.now.code & codes " src " & decimal status.now.src.0)) }
+    ensures { OnOk result (out.new.items ≡ out.old.items ++
+        (codes " code " & status_code_text status.now.code & codes " src " & decimal status.now.src.0)) }
 {
     put(out, b" code ")?;
     put_status_code(out, status.code)?;
@@ -75,7 +76,8 @@ fn put_status(out: &mut Vec<u8>, status: &Status) -> Result<(), Memory>
 }
 
 fn put_command_op(out: &mut Vec<u8>, command: &Command) -> Result<(), Memory>
-    ensures { OnOk result (out.new.items ≡ out.old.items ++ (codes " op " & cmd_op_text command.now.op)) }
+    ensures { OnOk result (out.new.items ≡ out.old.items ++
+        (codes " op " & cmd_op_text command.now.op)) }
 {
     put(out, b" op ")?;
     put_cmd_op(out, command.op)
@@ -113,14 +115,16 @@ fn put_ports(out: &mut Vec<u8>, control: &Control) -> Result<(), Memory>
 }
 
 fn put_control_op(out: &mut Vec<u8>, control: &Control) -> Result<(), Memory>
-    ensures { OnOk result (out.new.items ≡ out.old.items ++ (codes " op " & ctrl_op_text control.now.op)) }
+    ensures { OnOk result (out.new.items ≡ out.old.items ++
+        (codes " op " & ctrl_op_text control.now.op)) }
 {
     put(out, b" op ")?;
     put_ctrl_op(out, control.op)
 }
 
 fn put_control_status(out: &mut Vec<u8>, control: &Control) -> Result<(), Memory>
-    ensures { OnOk result (out.new.items ≡ out.old.items ++ (codes " status " & ctrl_status_text control.now.status)) }
+    ensures { OnOk result (out.new.items ≡ out.old.items ++
+        (codes " status " & ctrl_status_text control.now.status)) }
 {
     put(out, b" status ")?;
     put_ctrl_status(out, control.status)

@@ -37,7 +37,8 @@ pub fn put_pair(
     then: &[u8],
     next: u64,
 ) -> Result<(), Memory>
-    ensures { OnOk result (out.new.items ≡ out.old.items ++ (name.now ++ (decimal number ++ (then.now ++ decimal next)))) }
+    ensures { OnOk result (out.new.items ≡ out.old.items ++
+        (name.now ++ (decimal number ++ (then.now ++ decimal next)))) }
 {
     put_field(out, name, number)?;
     put_field(out, then, next)
@@ -59,7 +60,8 @@ fn why_text(why: Why) -> &'static [u8]
 }
 
 fn put_place(out: &mut Vec<u8>, at: u64) -> Result<(), Memory>
-    ensures { OnOk result (out.new.items ≡ out.old.items ++ (codes " at " ++ decimal at ++ codes "\n")) }
+    ensures { OnOk result (out.new.items ≡ out.old.items ++
+        (codes " at " ++ decimal at ++ codes "\n")) }
 {
     put(out, b" at ")?;
     put_number(out, at)?;
@@ -76,7 +78,8 @@ pub fn put_fault(out: &mut Vec<u8>, fault: Fault) -> Result<(), Memory>
 }
 
 fn put_canonical(out: &mut Vec<u8>, canonical: u64) -> Result<(), Memory>
-    ensures { OnOk result (out.new.items ≡ out.old.items ++ (codes " canonical " ++ decimal canonical ++ codes "\n")) }
+    ensures { OnOk result (out.new.items ≡ out.old.items ++
+        (codes " canonical " ++ decimal canonical ++ codes "\n")) }
 {
     put(out, b" canonical ")?;
     put_number(out, canonical)?;
