@@ -1,5 +1,5 @@
 -- Reading the packet at the front of bytes: the tests of type, Length and size, then its payload.
-use Rattle.std.specs.Prelude.{◌≡◌, ℕ, ◌+◌, ◌≤◌, Bool, true, false, nat_lt, if◌then◌else◌, List, length, slice_range, Option, None, Some, Result, Ok, Err, IsTrue}
+use Rattle.std.specs.Prelude.{◌≡◌, ℕ, ◌+◌, ◌≤◌, ◌&&◌, Bool, true, false, nat_lt, if◌then◌else◌, List, length, slice_range, Option, None, Some, Result, Ok, Err, IsTrue}
 use Rattle.chdr_words.specs.Field.{word_at, words_at}
 use Rattle.chdr_words.specs.Header.{header_of}
 use Rattle.chdr_words.specs.Wire.{wire_size_of}
@@ -103,6 +103,16 @@ abbrev pub passed : List ℕ → Result (Option (Packet × ℕ)) PacketFault →
 passed bytes (Ok None) = Ok None
 passed bytes (Ok (Some found)) = Ok (Some (found.1, is_plain bytes))
 passed bytes (Err fault) = Err fault
+
+-- a packet was read
+abbrev pub is_packet : Result (Option (Packet × ℕ)) PacketFault → Bool
+is_packet (Ok None) = false
+is_packet (Ok (Some found)) = true
+is_packet (Err fault) = false
+
+-- a packet is read at the front, and its bytes are its canonical spelling
+abbrev pub is_canonical_front : List ℕ → Bool
+is_canonical_front bytes = is_packet (packet_read bytes) && is_plain bytes
 
 -- the whole packet stands behind a header that passes the tests
 pub record IsFramed (h : Header) (bytes : List ℕ) : Type 0 where

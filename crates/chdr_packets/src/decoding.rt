@@ -1,11 +1,10 @@
 //! The packet at the front of bytes.
-ghost use Rattle.std.specs.Prelude.{◌≡◌, ◌↔◌, ◌+◌, ◌*◌, ◌≤◌, ◌==◌, false, ◌<◌, length, slice_range, Some, None, Ok, IfOk, IfSome, take, List, ℕ, IsTrue, IfNone, Option};
+ghost use Rattle.std.specs.Prelude.{◌≡◌, ◌↔◌, ◌+◌, ◌*◌, ◌≤◌, ◌==◌, ◌<◌, length, Some, None, Ok, IfOk, IfSome, take, ℕ, IfNone, Option};
 ghost use Rattle.std.specs.List.{list_all};
 ghost use Rattle.chdr_words.specs.Field.{words_at};
-ghost use Rattle.chdr_words.specs.Wire.{wire_size_of};
-ghost use Rattle.chdr_packets.specs.Grammar.{Spells, is_plain, payload_plain, plain_under, start_of, type_time};
+ghost use Rattle.chdr_packets.specs.Grammar.{Spells, is_plain, payload_plain, start_of, type_time};
 ghost use Rattle.chdr_packets.specs.Refusals.{HasMemory, IsShort, Refuses};
-ghost use Rattle.chdr_packets.specs.Reading.{Gives, IsFaultOf, IsFramed, IsSized, body_read, frame_read, is_reserved, opened, packed, packet_read, passed, time_at};
+ghost use Rattle.chdr_packets.specs.Reading.{Gives, IsFaultOf, IsFramed, IsSized, body_read, frame_read, is_canonical_front, is_reserved, packet_read, passed, time_at};
 
 use crate::fault::PacketFault;
 use crate::packet::{Body, Packet};
@@ -254,7 +253,9 @@ fn scan(b: &[u8]) -> Result<Option<(usize, bool)>, PacketFault>
     Ok(Some((size, plain)))
 }
 
-/// What `decode` finds, of which only the size and whether the bytes are canonical; it takes no memory.
+/// What `decode` finds, of which only the size and whether the bytes are canonical.
+///
+/// It takes no memory.
 pub fn pass(b: &[u8]) -> Result<Option<(usize, bool)>, PacketFault>
     ensures exact { result ≡ passed b.now (packet_read b.now) }
     ensures within { IfOk result (λ found. IfSome found (λ x. (x.0 ≤ length b.now) × (8 ≤ x.0))) }
@@ -263,9 +264,11 @@ pub fn pass(b: &[u8]) -> Result<Option<(usize, bool)>, PacketFault>
     scan(b)
 }
 
-/// Whether the bytes of the packet at the front are its canonical spelling.
+/// Whether there is a packet at the front, and its bytes are its canonical spelling.
 pub fn is_canonical(b: &[u8]) -> bool
-    ensures { (p : Packet) (n : ℕ) → packet_read b.now ≡ Ok (Some (p, n)) → result ≡ is_plain b.now }
+    ensures exact { result ≡ is_canonical_front b.now }
+    ensures found { (p : Packet) (n : ℕ) → packet_read b.now ≡ Ok (Some (p, n))
+        → result ≡ is_plain b.now }
 {
     match pass(b) {
         Ok(Some((_, canonical))) => canonical,

@@ -1,4 +1,4 @@
-ghost use Rattle.std.specs.Prelude.{◌≡◌, ◌<◌, ◌≤◌, ◌^◌, ◌*◌, ◌+◌, length};
+ghost use Rattle.std.specs.Prelude.{◌≡◌, ◌<◌, ◌≤◌, ◌^◌, length};
 ghost use Rattle.std.specs.List.{sum_by};
 ghost use Rattle.chdr_packets.specs.Length.{body_length, length_of, wire_of};
 ghost use Rattle.chdr_words.specs.Wire.{time_bytes};

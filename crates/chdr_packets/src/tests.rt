@@ -103,6 +103,10 @@ fn a_copy_is_equal(rt: HostRuntime) -> Result<(), Fail> {
     packet.eob = true;
     packet.seq = 3;
     assert_eq!(rt; packet.copy()?, packet);
+    let body = Body::Control(control());
+    assert_eq!(rt; body.copy()?, body);
+    let body = Body::Management(management(rt.alloc(), 2)?);
+    assert_eq!(rt; body.copy()?, body);
     Ok(())
 }
 
