@@ -6,3 +6,4 @@ pub mod WritingLemmas
 pub mod LawLemmas
 pub mod CanonLemmas
 pub mod UniqueLemmas
+pub mod SpellingLemmas

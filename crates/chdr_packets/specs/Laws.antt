@@ -3,6 +3,7 @@ use Rattle.std.specs.Prelude.{◌≡◌, ℕ, ◌<◌, ◌≤◌, ◌^◌, ◌++
 use Rattle.chdr_packets.specs.declared.packet.Packet.{Packet}
 use Rattle.chdr_packets.specs.Fits.{FitsPacket}
 use Rattle.chdr_packets.specs.Grammar.{IsCanon, Spells}
+use Rattle.chdr_packets.specs.Ranges.{IsRanged}
 use Rattle.chdr_packets.specs.Reading.{packet_read}
 
 -- numbers that bytes have
@@ -22,6 +23,10 @@ ReadsBack = (p : Packet) (bytes more : List ℕ) → Spells p bytes
 -- A packet that has a spelling fits.
 abbrev pub SpelledFits : Type 0
 SpelledFits = (p : Packet) (bytes : List ℕ) → Spells p bytes → FitsPacket p
+
+-- A packet that fits has a canonical spelling, of bytes.
+abbrev pub FittingSpelled : Type 0
+FittingSpelled = (p : Packet) → IsRanged p → FitsPacket p → (bytes : List ℕ) × IsBytes bytes × IsCanon p bytes
 
 -- A packet has one canonical spelling at most.
 abbrev pub OneCanon : Type 0

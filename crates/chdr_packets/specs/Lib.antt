@@ -1,5 +1,6 @@
 pub mod Length
 pub mod Fits
+pub mod Ranges
 pub mod Grammar
 pub mod Reading
 pub mod Refusals

@@ -1,8 +1,8 @@
 //! The laws of packets, for the crates above: each is the contract of a function that does nothing.
-ghost use Rattle.chdr_packets.specs.Laws.{OneAtFront, OneCanon, ReadsBack, SpelledFits};
+ghost use Rattle.chdr_packets.specs.Laws.{FittingSpelled, OneAtFront, OneCanon, ReadsBack, SpelledFits};
 
-/// The packet at the front of bytes and its size are unique: two spellings that the same bytes begin
-/// with are of one packet, and equally long.
+/// The packet at the front of bytes and its size are unique: two spellings that the same bytes
+/// begin with are of one packet, and equally long.
 pub fn one_packet_is_in_front()
     ensures { OneAtFront }
 {}
@@ -12,9 +12,14 @@ pub fn spellings_are_read_back()
     ensures { ReadsBack }
 {}
 
-/// A packet that has a spelling fits. By `encode` one that fits has a canonical spelling.
+/// A packet that has a spelling fits.
 pub fn spelled_packets_fit()
     ensures { SpelledFits }
+{}
+
+/// A packet that fits has a canonical spelling, whether or not `encode` finds memory for it.
+pub fn fitting_packets_are_spelled()
+    ensures { FittingSpelled }
 {}
 
 /// A packet has one canonical spelling at most: its reserved bits and pad bytes are zero, and the

@@ -14,8 +14,8 @@ pub use encoding::encode;
 pub use fault::PacketFault;
 pub use fitting::fits;
 pub use laws::{
-    canonical_spellings_are_unique, one_packet_is_in_front, spelled_packets_fit,
-    spellings_are_read_back,
+    canonical_spellings_are_unique, fitting_packets_are_spelled, one_packet_is_in_front,
+    spelled_packets_fit, spellings_are_read_back,
 };
 pub use packet::{Body, Packet, PacketList};
 
