@@ -37,12 +37,14 @@ pub samples_up_to-more : (item first next : ℕ) → first ≤ next →
     samples_from item first (next + 1 - first) ≡ samples_from item first (next - first) ++ sample item next
 samples_up_to-more item first next le = flat_map-up_to (sample item) first next le
 
--- keep, one sample more
-pub kept_samples_more : (n item first : ℕ) (payload : List ℕ) (i : ℕ) →
-    kept_samples n item first payload (i + 1) ≡
-    kept_samples n item first payload i ++ cond (nat_eq ((first + i) % n) 0) (sample_at item payload i) []
-kept_samples_more n item first payload i =
-    flat_map_more (λ j. cond (nat_eq ((first + j) % n) 0) (sample_at item payload j) []) 0 i i (omega arith)
+-- keep, one sample more: it is kept or left out
+pub kept-step : (n item first : ℕ) (payload : List ℕ) (i : ℕ) (before after : List ℕ) →
+    before ≡ kept_samples n item first payload i →
+    after ≡ before ++ cond (nat_eq ((first + i) % n) 0) (sample_at item payload i) [] →
+    after ≡ kept_samples n item first payload (i + 1)
+kept-step n item first payload i before after b a =
+    rw (a, b)
+    (sym (flat_map_more (λ j. cond (nat_eq ((first + j) % n) 0) (sample_at item payload j) []) 0 i i (omega arith)))
 
 -- repeat, one sample more
 pub repeated-step : (n item : ℕ) (payload : List ℕ) (first i index : ℕ) (before after : List ℕ) → (first + i) / n ≡ index →

@@ -1,6 +1,9 @@
+ghost use Rattle.std.specs.Prelude.{IsTrue, ◌↔◌};
+ghost use Rattle.block_library.specs.Blocks.{FitsKind};
+
 use rf_base::{Copyable, Memory};
 
-/// What a block does; docs/graph.md has the table.
+/// What a block does; docs/blocks.md has the table.
 ///
 /// The number n of a kind is 1 to 1,024 for keep, 1 to 16 for repeat and replay, 0 or 1 for switch.
 #[derive(Clone, Copy, Debug, PartialEq, Eq)]
@@ -14,6 +17,21 @@ pub enum BlockKind {
     Replay(u16),
     Switch(u16),
     Sink,
+}
+
+impl BlockKind {
+    /// Whether the number of the kind is in its range.
+    pub fn fits(self) -> bool
+        ensures { IsTrue result ↔ FitsKind self }
+    {
+        match self {
+            BlockKind::Keep(n) => 1 <= n && n <= 1024,
+            BlockKind::Repeat(n) | BlockKind::Replay(n) => 1 <= n && n <= 16,
+            BlockKind::Switch(n) => n <= 1,
+            BlockKind::Tx | BlockKind::Rx | BlockKind::Fifo | BlockKind::Split | BlockKind::Sink =>
+                true,
+        }
+    }
 }
 
 impl Copyable for BlockKind {

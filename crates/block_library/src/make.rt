@@ -1,4 +1,4 @@
-ghost use Rattle.std.specs.Prelude.{◌≡◌, ◌==◌, ◌/◌, ◌*◌, ◌+◌, ◌<◌, ◌≤◌, ◌++◌, ◌∷◌, ◌⊎◌, [], ℕ, ◌^◌, ◌-◌, IfOk, OnOk, length, vec_len, vec_capacity, if◌then◌else◌};
+ghost use Rattle.std.specs.Prelude.{◌≡◌, ◌/◌, ◌*◌, ◌+◌, ◌<◌, ◌≤◌, ◌++◌, ◌∷◌, ◌⊎◌, [], ◌^◌, ◌-◌, IfOk, OnOk, length, vec_len, vec_capacity};
 ghost use Rattle.block_library.specs.Places.{IsAt};
 ghost use Rattle.block_library.specs.Blocks.{payload_in, time_in, samples_in, sample_at, kept_samples, resampled, repeated_samples, repeated_part, repeated_packet, replayed_group};
 
@@ -93,7 +93,6 @@ pub fn kept(
     Ok(made)
 }
 
-#[tactic(auto, using(crate::proofs::SampleLemmas::kept_samples_more))]
 fn kept_bytes(
     alloc: Global,
     n: u16,
@@ -110,29 +109,23 @@ fn kept_bytes(
     let mut bytes = Vec::with_capacity(alloc, samples.len() / n as usize)?;
     for i in 0..samples.len() / item as usize {
         let keeps = (phase as usize + i) % n as usize == 0;
-        push_if(&mut bytes, keeps, samples, item, i)?;
+        if keeps {
+            push_sample(&mut bytes, item, samples, i)?;
+        }
     }
     Ok(bytes)
 }
 
-/// Appends a sample, where it is kept.
+/// Appends the sample of this number.
 #[tactic(auto, using(crate::proofs::SampleLemmas::sample_at_range))]
-fn push_if(
-    bytes: &mut Vec<u8>,
-    keeps: bool,
-    samples: &[u8],
-    item: u32,
-    index: usize,
-) -> Result<(), Memory>
+fn push_sample(bytes: &mut Vec<u8>, item: u32, samples: &[u8], index: usize) -> Result<(), Memory>
     requires item { (item ≡ 4) ⊎ (item ≡ 8) }
     requires within { index < length samples.now / item }
-    ensures { IfOk result (λ _. bytes.new.items ≡ bytes.old.items ++ (if keeps then sample_at item
-        samples.now index else [])) }
+    ensures { IfOk result (λ _. bytes.new.items ≡ bytes.old.items ++ sample_at item samples.now
+        index) }
 {
-    if keeps {
-        let start = item as usize * index;
-        bytes.extend_from_slice(&samples[start..start + item as usize])?;
-    }
+    let start = item as usize * index;
+    bytes.extend_from_slice(&samples[start..start + item as usize])?;
     Ok(())
 }
 
@@ -144,7 +137,7 @@ pub fn repeated(alloc: Global, n: u16, item: u32, packet: &Packet) -> Result<Vec
     requires item { (item ≡ 4) ⊎ (item ≡ 8) }
     ensures { IfOk result (λ made. made.items ≡ repeated_packet n item packet.now) }
 {
-    if samples_of(packet).1.len() / item as usize == 0 {
+    if sample_count(item, packet) == 0 {
         return copied(alloc, packet);
     }
     let mut made = Vec::with_capacity(alloc, n as usize)?;
@@ -215,7 +208,7 @@ fn repeated_bytes(
     for _i in 0..count {
         let index = place.index;
         prove!(index < count);
-        push_if(&mut bytes, true, samples, item, index)?;
+        push_sample(&mut bytes, item, samples, index)?;
         place.step(n);
     }
     Ok(bytes)

@@ -223,6 +223,23 @@ fn a_group_is_whole_at_its_64th_packet(rt: HostRuntime) -> Result<(), Fail> {
 }
 
 #[test]
+fn the_number_of_a_kind_has_a_range(rt: HostRuntime) -> Result<(), Fail> {
+    for (kind, fits) in [
+        (BlockKind::Keep(0), false),
+        (BlockKind::Keep(1), true),
+        (BlockKind::Keep(1024), true),
+        (BlockKind::Keep(1025), false),
+        (BlockKind::Repeat(16), true),
+        (BlockKind::Repeat(17), false),
+        (BlockKind::Switch(1), true),
+        (BlockKind::Switch(2), false),
+    ] {
+        assert_eq!(rt; kind.fits(), fits);
+    }
+    Ok(())
+}
+
+#[test]
 fn a_kind_is_copied(rt: HostRuntime) -> Result<(), Fail> {
     assert_eq!(rt; BlockKind::Keep(4).copy()?, BlockKind::Keep(4));
     Ok(())

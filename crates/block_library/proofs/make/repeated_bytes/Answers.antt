@@ -19,7 +19,7 @@ loop-i-preserved c =
       bytes =
           repeated-step c.args.n c.args.item c.args.samples.now (c.args.k * count) c.loop-i._i c.loop-i.place.index _ _
           (index-is c.loop-i.place.index c.args.n c.loop-i.place.turn (c.args.k * count + c.loop-i._i) place.at place.turn)
-          c.loop-i.invariant.bytes c.in_ok-push_if.ensures;
+          c.loop-i.invariant.bytes c.in_ok-push_sample.ensures;
       place = record {
         turn = c.step.ensures.turn;
         at = omega (arith, c.step.ensures.at, place.at);
