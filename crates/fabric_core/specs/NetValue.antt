@@ -1,5 +1,5 @@
 -- What contracts see of a net.
-use Rattle.std.specs.Prelude.{◌≡◌, ℕ, ◌+◌, ◌-◌, ◌≤◌, ◌<◌, ◌==◌, not, Bool, true, ◌&&◌, nat_le, List, [], ◌∷◌, length, map, Option, None, Some, IsTrue, slice_index_or}
+use Rattle.std.specs.Prelude.{◌≡◌, ℕ, ◌+◌, ◌-◌, ◌≤◌, ◌<◌, ◌==◌, not, Bool, true, ◌&&◌, nat_le, List, [], ◌∷◌, length, map, if◌then◌else◌, Option, None, Some, IsTrue, slice_index_or}
 use Rattle.std.specs.List.{find}
 use Rattle.chdr_packets.specs.declared.packet.Packet.{Packet}
 use Rattle.fabric_core.specs.Machine.{State, has_packet, numbered}
@@ -8,6 +8,8 @@ use Rattle.fabric_core.specs.Runs.{candidates}
 use Rattle.fabric_core.specs.Laws.{IsLawful}
 use Rattle.fabric_core.specs.declared.event.Event.{Event}
 use Rattle.fabric_core.specs.declared.event.Event.TheVariants.{Enter, Hop, Seen}
+use Rattle.fabric_core.specs.declared.tally.StreamEnd.{StreamEnd}
+use Rattle.fabric_core.specs.declared.tally.StreamEnd.TheVariants.{Drained, Undrained}
 
 -- `made` has, for each stream, the packets that its producer puts on it
 pub record NetValue : Type 0 where
@@ -51,3 +53,7 @@ chosen_now p = find (may p) (candidates (length p.stands) (length p.queues))
 abbrev pub drained_now : List Packet → Stand → Bool
 drained_now queue stand =
     not (has_packet stand.ready) && (not (has_packet queue) && (stand.taken == stand.given))
+
+-- how a stream stands, as far as the present tells
+abbrev pub end_now : List Packet → Stand → StreamEnd
+end_now queue stand = if drained_now queue stand then Drained else Undrained stand.sent stand.taken

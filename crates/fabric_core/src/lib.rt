@@ -13,7 +13,7 @@ mod tally;
 pub use event::{Event, Journal};
 pub use net::Net;
 pub use queue::LINK_ROOM;
-pub use tally::{StreamEnd, Tally};
+pub use tally::{Line, StreamEnd, Tally};
 
 #[cfg(test)]
 mod tests;

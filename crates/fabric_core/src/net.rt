@@ -2,8 +2,8 @@ ghost use Rattle.std.specs.Prelude.{◌≡◌, ◌<◌, ◌≤◌, ◌++◌, ℕ
 ghost use Rattle.block_library.specs.Producer.{FitsPlan};
 ghost use Rattle.fabric_core.specs.Laws.{plain};
 ghost use Rattle.fabric_core.specs.Machine.{State, after, enabled, queue_at};
-ghost use Rattle.fabric_core.specs.NetValue.{Stands, chosen_now, doable};
-ghost use Rattle.fabric_core.specs.Present.{goes_on, hands, may, stand_at};
+ghost use Rattle.fabric_core.specs.NetValue.{Stands, chosen_now, doable, end_now};
+ghost use Rattle.fabric_core.specs.Present.{goes_on, hands, may, stand_at, tally_now};
 ghost use Rattle.fabric_core.specs.Runs.{chosen, end_of, start, tally_of};
 
 use crate::places::{choose_at, doable_at, is_drained, may_at};
@@ -150,6 +150,8 @@ impl Net {
     /// How the stream stands.
     pub fn end(&self, s: u16) -> StreamEnd
         requires { s < length self.now.present.stands }
+        ensures present { result
+            ≡ end_now (queue_at self.now.present.queues s) (stand_at self.now.present.stands s) }
         ensures machine { (w : State) → Stands self.now w → result ≡ end_of w s }
     {
         let stream = &self.tracked[s as usize];
@@ -163,6 +165,7 @@ impl Net {
     /// What the stream did so far.
     pub fn tally(&self, s: u16) -> Tally
         requires { s < length self.now.present.stands }
+        ensures present { result ≡ tally_now (stand_at self.now.present.stands s) }
         ensures machine { (w : State) → Stands self.now w → result ≡ tally_of w s }
     {
         self.tracked[s as usize].tally()

@@ -20,6 +20,16 @@ fn plan(packets: u32) -> TxPlan
     }
 }
 
+/// Three packets of 16 bytes, all sent before the first was taken.
+const THREE_TAKEN: Tally = Tally {
+    sent: 3,
+    delivered: 3,
+    acked: 3,
+    epochs: 1,
+    peak_bytes: 48,
+    peak_packets: 3,
+};
+
 #[test]
 fn three_packets_cross_a_straight_link(rt: HostRuntime) -> Result<(), Fail> {
     let mut net = Net::straight(rt.alloc(), plan(3))?;
@@ -53,17 +63,7 @@ fn three_packets_cross_a_straight_link(rt: HostRuntime) -> Result<(), Fail> {
     net.step(Event::Seen(0, 3));
     assert!(rt; net.stream_count() == 1);
     assert_eq!(rt; net.end(0), StreamEnd::Drained);
-    assert_eq!(rt;
-        net.tally(0),
-        Tally {
-            sent: 3,
-            delivered: 3,
-            acked: 3,
-            epochs: 1,
-            peak_bytes: 48,
-            peak_packets: 3,
-        }
-    );
+    assert_eq!(rt; net.tally(0), THREE_TAKEN);
     Ok(())
 }
 
