@@ -1,26 +1,14 @@
 -- The line of an Rx block: what it took, counted in packets and in samples.
-use Rattle.std.specs.Prelude.{ℕ, ◌-◌, ◌/◌, ◌^◌, ◌==◌, List, [], ◌∷◌, length, min, sum_by, nat_le, if◌then◌else◌, Option, None, Some}
+use Rattle.std.specs.Prelude.{ℕ, ◌-◌, ◌^◌, ◌==◌, List, [], ◌∷◌, length, min, sum_by, nat_le, if◌then◌else◌, Option, None, Some}
 use Rattle.std.specs.Option.{option_or}
 use Rattle.chdr_packets.specs.declared.packet.Packet.{Packet}
-use Rattle.chdr_packets.specs.declared.packet.Body.{Body}
-use Rattle.chdr_packets.specs.declared.packet.Body.TheVariants.{Samples, Status, Command, Control, Management}
+use Rattle.block_library.specs.Blocks.{payload_in, samples_in}
 use Rattle.chdr_words.specs.Field.{word_at, half_at}
-use Rattle.rfnoc_cli.specs.declared.line.Line.{Line}
+use Rattle.fabric_core.specs.declared.tally.Line.{Line}
 
--- the samples as bytes
-abbrev pub samples_of : Body → List ℕ
-samples_of (Samples time payload) = payload
-samples_of (Status status) = []
-samples_of (Command command) = []
-samples_of (Control control) = []
-samples_of (Management management) = []
-
+-- the samples of a packet, as bytes
 abbrev pub payload_of : Packet → List ℕ
-payload_of packet = samples_of packet.body
-
--- how many samples of `item` bytes a packet has
-abbrev pub samples_in : ℕ → Packet → ℕ
-samples_in item packet = length (payload_of packet) / item
+payload_of packet = payload_in packet.body
 
 -- the sample of `item` bytes at a place
 abbrev pub sample_at : ℕ → List ℕ → ℕ → ℕ

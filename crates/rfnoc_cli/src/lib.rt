@@ -14,8 +14,8 @@ mod top;
 mod words;
 
 pub use book::{Book, BookList, Books, Ends, Lines, RunBook, TakenLists, Tallies};
+pub use fabric_core::Line;
 pub use input::{SCRIPT_LIMIT, read_form};
-pub use line::Line;
 pub use run::run_one;
 pub use straight::Straight;
 pub use texts::report;

@@ -1,20 +1,10 @@
 ghost use Rattle.std.specs.Prelude.{◌≡◌, ◌⊎◌, ◌+◌, ◌≤◌, length};
-ghost use Rattle.rfnoc_cli.specs.Lines.{samples_of, payload_of, sample_at, first_in, last_in, line_of};
+ghost use Rattle.block_library.specs.Blocks.{payload_in};
+ghost use Rattle.rfnoc_cli.specs.Lines.{payload_of, sample_at, first_in, last_in, line_of};
 
 use chdr_packets::{Body, Packet};
 use chdr_words::{half_at, word_at};
-
-/// What an Rx block took in a run.
-#[derive(Clone, Copy, Debug, PartialEq, Eq)]
-pub struct Line {
-    pub block: u16,
-    pub packets: u64,
-    /// Samples of the block's item size; the count stands still at 2^64 - 1.
-    pub samples: u64,
-    /// The first sample taken, and the last one.
-    pub first: Option<u64>,
-    pub last: Option<u64>,
-}
+use fabric_core::Line;
 
 /// The line of a block that took these packets, with samples of `item` bytes.
 #[tactic(auto, using(crate::proofs::LineLemmas::line_lemmas))]
