@@ -1,11 +1,12 @@
 -- One thread's run of a straight script, by the laws of the machine.
-use Rattle.std.proofs.Common.{◌≡◌, List, [], ◌∷◌, ◌++◌, length, drop, refl, ◌∙◌, ap, subst, arith, eq-eqb, length-drop}
-use Rattle.std.specs.Prelude.{Result, Ok, Err, IfOk}
+use Rattle.std.proofs.Common.{◌≡◌, ℕ, List, [], ◌∷◌, ◌++◌, length, take, drop, refl, sym, ◌∙◌, ap, subst, arith, eq-eqb, length-drop}
+use Rattle.std.specs.Prelude.{Result, Ok, Err, IfOk, OnErr}
+use Rattle.std.proofs.lemmas.List.{take-append-drop}
 use Rattle.rf_base.specs.declared.memory.Memory.{Memory}
 use Rattle.chdr_packets.specs.declared.packet.Packet.{Packet}
 use Rattle.fabric_core.specs.Machine.{State, stream_at, after}
 use Rattle.fabric_core.specs.NetValue.{NetValue, Stands}
-use Rattle.fabric_core.specs.Laws.{plain}
+use Rattle.fabric_core.specs.Laws.{IsPrefixOf, plain}
 use Rattle.fabric_core.specs.Runs.{IsLegal, IsDrained, after_all, start, end_of}
 use Rattle.fabric_core.specs.declared.event.Event.{Event}
 use Rattle.fabric_core.specs.declared.tally.StreamEnd.{StreamEnd}
@@ -13,10 +14,11 @@ use Rattle.fabric_core.specs.declared.tally.StreamEnd.TheVariants.{Drained}
 use Rattle.fabric_core.proofs.RunLaws.{all-lawful, order, rest_drained, drained_all, whole}
 use Rattle.fabric_core.proofs.LawfulLaws.{starts}
 use Rattle.block_library.specs.declared.plan.TxPlan.{TxPlan}
+use Rattle.rfnoc_cli.specs.declared.book.Book.{Book}
 use Rattle.rfnoc_cli.specs.declared.book.RunBook.{RunBook}
 use Rattle.rfnoc_cli.specs.declared.straight.Straight.{Straight}
 use Rattle.rfnoc_cli.specs.Run.{IsRunOf, IsOne, IsFresh, given_of, waiting_of}
-use Rattle.rfnoc_cli.specs.TopCall.{plan_of, IsStraightRun}
+use Rattle.rfnoc_cli.specs.TopCall.{plan_of, IsStraightRun, books_before}
 
 -- the front of a legal journal is legal
 legal-front : (w : State) (front rest : List Event) → IsLegal w (front ++ rest) → IsLegal w front
@@ -67,3 +69,15 @@ pub straight_run_ok : (s : Straight) (r : Result RunBook Memory) (net : NetValue
     IfOk r (λ book. (w : State) → Stands net w → IsRunOf 1 s.item w book) → IfOk r (λ run. IsStraightRun s run)
 straight_run_ok s (Ok run) net stands told = straight_run s run (told (start (plan_of s)) stands)
 straight_run_ok s (Err e) net stands told = tt
+
+-- where a call fails that keeps the first k books, they are a first part of them
+first_books : (k : ℕ) (books : List Book) → books ≡ take k books_before → IsPrefixOf books books_before
+first_books k books is = record {
+  rest = drop k books_before;
+  joins = sym (ap (λ front. front ++ drop k books_before) is ∙ take-append-drop k books_before);
+}
+
+pub begins_with : {A E : Type 0} (k : ℕ) (r : Result A E) (books : List Book) → books ≡ take k books_before →
+    OnErr r (IsPrefixOf books books_before)
+begins_with k (Ok a) books is = tt
+begins_with k (Err e) books is = first_books k books is

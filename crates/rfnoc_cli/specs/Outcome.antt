@@ -6,7 +6,7 @@ use Rattle.capture_tool.specs.Seen.{fault_of}
 use Rattle.capture_tool.specs.Text.{checked}
 use Rattle.capture_tool.specs.Listing.{listed}
 use Rattle.rfnoc_cli.specs.Form.{IsScript, IsRefused}
-use Rattle.rfnoc_cli.specs.TopCall.{IsDone, WritesPrefix, not_built}
+use Rattle.rfnoc_cli.specs.TopCall.{IsBegun, IsDone, WritesPrefix, not_built}
 use Rattle.rfnoc_cli.specs.declared.book.Book.{Book}
 use Rattle.rfnoc_cli.specs.declared.straight.Straight.{Straight}
 use Rattle.rfnoc_cli.specs.declared.words.Form.{Form}
@@ -22,6 +22,7 @@ pub record IsRunOutcome {K : Type 0} (left : Option (List ℕ)) (written : K →
   pub refused : status ≡ 6 → IfSome left IsRefused
   pub told : status ≡ 6 → Adds (written old) (written new) not_built
   pub empty : (status ≡ 3) ⊎ (status ≡ 6) → books ≡ []
+  pub begun : status ≡ 5 → (books ≡ []) ⊎ IsBegun left books
 
 -- a form that writes this text of a capture
 pub record IsCaptureOutcome (text : List ℕ → List ℕ) (left old new : Option (List ℕ)) (status : ℕ) : Type 0 where

@@ -1,7 +1,7 @@
 -- What the program does with its input, as one call.
-use Rattle.std.specs.Prelude.{◌≡◌, ℕ, List, [], ◌∷◌, ◌++◌, Option, None, Some, IfSome, codes}
+use Rattle.std.specs.Prelude.{◌≡◌, ◌⊎◌, ℕ, List, [], ◌∷◌, ◌++◌, Option, None, Some, IfSome, codes}
 use Rattle.block_library.specs.declared.plan.TxPlan.{TxPlan}
-use Rattle.fabric_core.specs.Laws.{KeepsOrder, plain}
+use Rattle.fabric_core.specs.Laws.{IsPrefixOf, KeepsOrder, plain}
 use Rattle.fabric_core.specs.Runs.{IsWhole, after_all, start}
 use Rattle.fabric_core.specs.declared.event.Event.{Event}
 use Rattle.fabric_core.specs.declared.tally.StreamEnd.TheVariants.{Drained}
@@ -59,6 +59,12 @@ pub record WritesPrefix (left old new : Option (List ℕ)) (books : List Book) :
   pub reading : IfSome left (λ bytes. IsReading bytes read)
   pub output : IsOutput read books text
   pub added : AddsPrefix old new text
+
+-- the script was begun: the books are those of some first commands before the run, or of all commands
+pub record IsBegun (left : Option (List ℕ)) (books : List Book) : Type 0 where
+  pub read : Straight
+  pub reading : IfSome left (λ bytes. IsScript bytes read)
+  pub begun : IsPrefixOf books books_before ⊎ IsPerformed read books
 
 -- the script was performed and its whole report written
 pub record IsDone (left old new : Option (List ℕ)) (books : List Book) : Type 0 where

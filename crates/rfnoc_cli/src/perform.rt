@@ -1,5 +1,6 @@
 //! A straight script performed, and its output.
-ghost use Rattle.std.specs.Prelude.{◌≡◌, ◌⊎◌, ◌≤◌, [], IfOk, OnOk};
+ghost use Rattle.std.specs.Prelude.{◌≡◌, ◌⊎◌, ◌≤◌, [], IfOk, OnOk, OnErr};
+ghost use Rattle.fabric_core.specs.Laws.{IsPrefixOf};
 ghost use Rattle.fabric_core.specs.NetValue.{Stands};
 ghost use Rattle.fabric_core.specs.Runs.{start};
 ghost use Rattle.rf_outside.specs.Bytes.{Adds, AddsPrefix};
@@ -38,6 +39,8 @@ pub(crate) fn tell_run<K: Sink>(
         AddsPrefix (K.written out.old) (K.written out.new) (report_of straight books.new) }
     ensures failed { result ≡ 4 → Rose (K.faults out.old) (K.faults out.new) }
     ensures memory { result ≡ 5 → out.new ≡ out.old }
+    ensures begun { result ≡ 5 →
+        IsPrefixOf books.new books_before ⊎ IsPerformed straight books.new }
 {
     if perform(alloc, straight, books).is_err() {
         return 5;
@@ -72,7 +75,8 @@ pub(crate) fn tell_refusal<K: Sink>(out: &mut K) -> u8
 fn perform(alloc: Global, straight: Straight, books: &mut BookList) -> Result<(), Memory>
     requires fits { FitsStraight straight }
     requires empty { books.old ≡ [] }
-    ensures { OnOk result (IsPerformed straight books.new) }
+    ensures performed { OnOk result (IsPerformed straight books.new) }
+    ensures begun { OnErr result (IsPrefixOf books.new books_before) }
 {
     keep_before(books)?;
     let run = run_straight(alloc, straight)?;
@@ -83,7 +87,8 @@ fn perform(alloc: Global, straight: Straight, books: &mut BookList) -> Result<()
 /// The books of the commands before the run.
 fn keep_before(books: &mut BookList) -> Result<(), Memory>
     requires { books.old ≡ [] }
-    ensures { OnOk result (books.new ≡ books_before) }
+    ensures kept { OnOk result (books.new ≡ books_before) }
+    ensures begun { OnErr result (IsPrefixOf books.new books_before) }
 {
     books.push(Book::Net)?;
     books.push(Book::Block(0))?;
