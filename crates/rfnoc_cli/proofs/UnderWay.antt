@@ -1,6 +1,6 @@
 -- One event more of a run that goes on, and its end.
 use Rattle.std.proofs.Common.{◌≡◌, ℕ, ◌+◌, ◌≤◌, List, [], ◌∷◌, ◌++◌, length, take, drop, Bool, true, false, zero, suc, refl, sym, ◌∙◌, ap, subst, arith, append_assoc, append-nil, length-drop}
-use Rattle.std.specs.Prelude.{Option, None, Some, Result, Ok, Err, IfOk, nat_lt}
+use Rattle.std.specs.Prelude.{Option, None, Some, Result, Ok, Err, IfOk, OnOk, nat_lt}
 use Rattle.rf_base.specs.declared.memory.Memory.{Memory}
 use Rattle.std.proofs.Math.Seq.{take-append_seam, take-length}
 use Rattle.std.proofs.lemmas.List.{take-append-drop, take_all}
@@ -162,3 +162,10 @@ pub is_run_ok : (first net : NetValue) (taken : List Packet) (block item : ℕ) 
 is_run_ok first net taken block item (Ok book) one run journal list lines its_ends its_tallies =
     λ w stands. is_run net w taken block item book one (run w stands) journal list lines its_ends its_tallies
 is_run_ok first net taken block item (Err e) one run journal list lines its_ends its_tallies = tt
+
+-- the net that a run leaves, where its book was made
+pub leaves : (first net : NetValue) (taken : List Packet) (next : Option Event) (r : Result RunBook Memory) →
+    ((w : State) → Stands first w → IsUnderWay w net taken next) →
+    OnOk r ((w : State) → Stands first w → Stands net (after_all w net.journal))
+leaves first net taken next (Ok book) run = λ w stands. (run w stands).stands
+leaves first net taken next (Err e) run = tt

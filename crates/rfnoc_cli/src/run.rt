@@ -2,7 +2,7 @@
 ghost use Rattle.std.specs.Prelude.{◌≡◌, ◌⊎◌, ◌+◌, ◌<◌, ◌≤◌, ◌++◌, ℕ, [], ◌∷◌, length, IfOk, IfSome, OnOk, IsTrue, MatchOption};
 ghost use Rattle.fabric_core.specs.Machine.{State, after};
 ghost use Rattle.fabric_core.specs.NetValue.{Stands, doable};
-ghost use Rattle.fabric_core.specs.Runs.{next_of, end_of, tally_of};
+ghost use Rattle.fabric_core.specs.Runs.{after_all, next_of, end_of, tally_of};
 ghost use Rattle.rfnoc_cli.specs.Lines.{line_of};
 ghost use Rattle.rfnoc_cli.specs.Run.{IsRunOf, IsOne, IsFresh, given_of, waiting_of, given_at, left_of};
 
@@ -21,7 +21,10 @@ pub fn run_one(alloc: Global, net: &mut Net, block: u16, item: u32) -> Result<Ru
     requires item { (item ≡ 4) ⊎ (item ≡ 8) }
     requires one { IsOne net.old.present }
     requires fresh { IsFresh net.old }
-    ensures { IfOk result (λ book. (w : State) → Stands net.old w → IsRunOf block item w book) }
+    ensures book { IfOk result (λ book. (w : State) → Stands net.old w → IsRunOf block item w book) }
+    ensures journal { IfOk result (λ book. book.journal ≡ net.new.journal) }
+    ensures left { OnOk result
+        ((w : State) → Stands net.old w → Stands net.new (after_all w net.new.journal)) }
 {
     let mut taken = Items::new(alloc);
     hand_out(net, &mut taken)?;

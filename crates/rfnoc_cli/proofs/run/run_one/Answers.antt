@@ -2,7 +2,7 @@ use Rattle.std.proofs.Common.{◌≡◌, List, ◌++◌, length, sym, ◌∙◌,
 use Rattle.std.specs.Prelude.{None}
 use Rattle.chdr_packets.specs.declared.packet.Packet.{Packet}
 use Rattle.rfnoc_cli.specs.Run.{IsUnderWay, waiting_of}
-use Rattle.rfnoc_cli.proofs.UnderWay.{begins, goes_further, is_run_ok}
+use Rattle.rfnoc_cli.proofs.UnderWay.{begins, goes_further, is_run_ok, leaves}
 use Rattle.rfnoc_cli.proofs.run.run_one.Goals as goal
 
 pub run-init : goal.run-init
@@ -44,9 +44,12 @@ run-preserved c =
           c.in_ok-advance.ensures.machine c.in_ok-advance.ensures.journal before h.machine h.journal h.taken c.next_event-next-in-Some.ensures.machine;
     }
 
-pub returns : goal.returns
-returns c =
+pub returns-clause-book : goal.returns-clause-book
+returns-clause-book c =
     let none : c.run.next ≡ None = c.in_default.is in
     is_run_ok c.args.net.now c.run.net c.run.taken c.args.block c.args.item c.book_of.result c.run.invariant.one
     (λ w stands. subst (IsUnderWay w c.run.net c.run.taken) none (c.run.invariant.run w stands))
     c.book_of.ensures.journal c.book_of.ensures.taken c.book_of.ensures.lines c.book_of.ensures.ends c.book_of.ensures.tallies
+
+pub returns-clause-left : goal.returns-clause-left
+returns-clause-left c = leaves c.args.net.now c.run.net c.run.taken c.run.next c.book_of.result c.run.invariant.run
