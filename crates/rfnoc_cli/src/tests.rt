@@ -1,4 +1,4 @@
-use crate::{Book, Books, Straight, read_form, rfnoc};
+use crate::{Book, Books, RunBook, Straight, read_form, rfnoc};
 use chdr_words::{Bytes, Epid};
 use fabric_core::Event;
 use rf_base::Items;
@@ -77,6 +77,24 @@ pub(crate) fn run(alloc: Global, bytes: &[u8]) -> Result<Told, Fail> {
     )
 }
 
+/// The book of the one run, behind those of the eight commands before it.
+fn run_of(books: &Books) -> Option<&RunBook> {
+    match books.list.as_slice() {
+        [
+            Book::Net,
+            Book::Block(0),
+            Book::Block(1),
+            Book::Connect(0),
+            Book::Set,
+            Book::Set,
+            Book::Set,
+            Book::Commit,
+            Book::Run(run),
+        ] => Some(run),
+        _ => None,
+    }
+}
+
 #[test]
 fn a_straight_script_is_performed_and_reported(rt: HostRuntime) -> Result<(), Fail> {
     let told = run(rt.alloc(), SCRIPT.as_bytes())?;
@@ -93,12 +111,9 @@ fn a_straight_script_is_performed_and_reported(rt: HostRuntime) -> Result<(), Fa
         Event::Hop(0),
         Event::Seen(0, 3),
     ];
-    assert_eq!(rt; told.books.list.len(), 9);
-    for book in told.books.list.as_slice() {
-        if let Book::Run(run) = book {
-            assert_eq!(rt; run.journal.as_slice(), wanted.as_slice());
-            assert_eq!(rt; run.taken.len(), 1);
-        }
+    match run_of(&told.books) {
+        Some(run) => assert_eq!(rt; run.journal.as_slice(), wanted.as_slice()),
+        None => assert!(rt; false, "the run has a book"),
     }
     Ok(())
 }
@@ -322,16 +337,18 @@ fn a_run_moves_every_packet_into_its_book(rt: HostRuntime) -> Result<(), Fail> {
     let text = script_of(rt.alloc(), ["9", "7", "100", "5", "8", "3"])?;
     let told = run(rt.alloc(), text.as_bytes())?;
     assert_eq!(rt; told.status, 0);
-    for book in told.books.list.as_slice() {
-        if let Book::Run(run) = book {
-            for taken in run.taken.as_slice() {
-                assert_eq!(rt; taken.len(), 100);
-            }
-            for line in run.lines.as_slice() {
-                assert_eq!(rt; line.samples, 300);
-                assert_eq!(rt; line.last, Some(299));
-            }
-        }
+    let Some(run) = run_of(&told.books) else {
+        assert!(rt; false, "the run has a book");
+        return Ok(());
+    };
+    assert_eq!(rt; run.taken.len(), 1);
+    for taken in run.taken.as_slice() {
+        assert_eq!(rt; taken.len(), 100);
+    }
+    assert_eq!(rt; run.lines.len(), 1);
+    for line in run.lines.as_slice() {
+        assert_eq!(rt; line.samples, 300);
+        assert_eq!(rt; line.last, Some(299));
     }
     Ok(())
 }
