@@ -11,12 +11,14 @@ use Rattle.graph_core.specs.declared.place.Side.TheVariants.{Into, Out}
 use Rattle.graph_core.specs.declared.place.PortAt.{PortAt}
 use Rattle.graph_core.specs.declared.place.PropAt.{PropAt}
 use Rattle.graph_core.specs.declared.place.Edge.{Edge}
+use Rattle.graph_core.specs.Derivation.{Settles}
 use Rattle.graph_core.specs.Edges.{Reaches, IsAcyclic, IsJoined, port_number}
 use Rattle.graph_core.specs.Edges.Reaches.{here, along}
 use Rattle.graph_core.specs.Pairs.{Pair, IsPut}
 use Rattle.graph_core.specs.Ports.{FitsKind, ports_at, IsProperty}
 use Rattle.graph_core.specs.Refusals.{IsFree}
 use Rattle.graph_core.specs.State.{IsGraph, state}
+use Rattle.graph_core.proofs.Derived.{one_value}
 use Rattle.graph_core.proofs.Places.{any_item, few_items, more_ports, same_port, number_below, ports_at_two}
 
 none_in : {X : Type 0} (x : X) → Contains [] x → ⊥
@@ -35,6 +37,7 @@ new_graph = record {
     users = λ at value has. absurd (none_in (at, value) has);
     single = λ at one other a b. absurd (none_in (at, one) a);
   };
+  once = λ at one other a b. absurd (none_in (at, one) a);
   settled = λ e. let z : false ≡ true = e in cc;
 }
 
@@ -85,6 +88,7 @@ module _ (kinds : List BlockKind) (edges : List Edge) (users committed : List Pa
       users = λ at value has. let m = more_ports kinds kind at.block at.side in let a = ok.diagram.users at value has in omega arith;
       single = ok.diagram.single;
     };
+    once = ok.once;
     settled = λ e. let z : false ≡ true = e in cc;
   }
 
@@ -107,6 +111,7 @@ module _ (kinds : List BlockKind) (edges : List Edge) (users committed : List Pa
       users = λ q u has. ⊎_elim (λ same. subst (IsProperty kinds) (sym same.0) property) (λ other. ok.diagram.users q u other.1) (put.only q u has);
       single = λ q u w a b. single_put new at value put q u w (put.only q u a) (put.only q w b);
     };
+    once = ok.once;
     settled = λ e. let z : false ≡ true = e in cc;
   }
 
@@ -154,5 +159,13 @@ module _ (kinds : List BlockKind) (edges : List Edge) (users committed : List Pa
           users = ok.diagram.users;
           single = ok.diagram.single;
         };
+        once = ok.once;
         settled = λ e. let z : false ≡ true = e in cc;
       }
+
+  pub settle_kept : (values : List Pair) → Settles (state kinds edges users committed mark).diagram values → IsGraph (state kinds edges users values true)
+  settle_kept values settles = record {
+    diagram = ok.diagram;
+    once = one_value (state kinds edges users committed mark).diagram values settles.closed.derivation;
+    settled = λ _. settles;
+  }

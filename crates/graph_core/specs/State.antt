@@ -55,6 +55,7 @@ pub record IsDiagram (diagram : Diagram) : Type 0 where
 -- what holds of every graph
 pub record IsGraph (state : State) : Type 0 where
   pub diagram : IsDiagram state.diagram
+  pub once : (at : PropAt) (one other : ℕ) → Contains state.committed (at, one) → Contains state.committed (at, other) → one ≡ other
   pub settled : state.is_committed ≡ true → Settles state.diagram state.committed
 
 -- the graph with one more block
