@@ -2,18 +2,17 @@
 use Rattle.std.proofs.Common.{◌≡◌, ℕ, ◌+◌, ◌<◌, List, [], ◌∷◌, length, Option, Some, None, slice_get}
 use Rattle.std.proofs.Common.{refl, sym, ap, subst, ◌∙◌, length-append, arith}
 use mathlib.Core.List.{IsPrefix}
-use mathlib.Core.Option.{none}
-use Rattle.atomic_table.specs.Table.{rest, step}
+use Rattle.atomic_table.specs.Table.{rest}
 use Rattle.chdr_packets.specs.declared.packet.Packet.{Packet}
 use Rattle.credit_lane.specs.declared.plan.LanePlan.{LanePlan}
 use Rattle.credit_lane.specs.declared.plan.LanePlan.TheVariants.{Any, Producer}
 use Rattle.credit_lane.specs.declared.rule.View.{View}
 use Rattle.credit_lane.specs.Planned.{IsPlanned, IsNext}
 use Rattle.block_library.specs.Producer.{produced}
-use Rattle.credit_lane.specs.Plays.{Seated, filling, filled, knows_taken, sees_taken, emptying, emptied}
-use Rattle.credit_lane.specs.Plays.{next_of, knows_put, sees_put}
+use Rattle.credit_lane.specs.Plays.{Seated, filling, filled, emptying, emptied}
+use Rattle.credit_lane.specs.Plays.{next_of}
 use Rattle.credit_lane.specs.Held.{putting, taking, Puts, Takes}
-use Rattle.credit_lane.proofs.Prefixes.{begins_longer, no_longer, begins_next, begins_itself}
+use Rattle.credit_lane.proofs.Prefixes.{begins_longer, begins_next, begins_itself}
 use Rattle.credit_lane.proofs.Prefixes.{begins_chain, get_in_longer}
 use Rattle.credit_lane.proofs.Putting.{fits_more}
 use Rattle.credit_lane.proofs.Seats.{fits_nothing}
@@ -55,18 +54,6 @@ puts_more plan room put taken me me' x p is near next = subst (Puts plan room (p
       planned = fits_more plan me.0.put x p.planned next;
     }
 
-pub puts_looked : (plan : LanePlan) (room put taken n : ℕ) (me me' : Seated)
-    → Puts plan room put taken me → sees_taken me n me' → Puts plan room put n me'
-puts_looked plan room put taken n me me' p sees = let old = no_longer me.0.got me'.0.got sees.2 in
-    subst (Puts plan room put n) (sym sees.0) record {
-      seat = ap (λ (z : Seated). (knows_taken z.0 me'.0.got, z.1)) p.seat;
-      put_is = p.put_is;
-      taken_is = sym sees.1;
-      behind = sees.3;
-      near = omega (arith, p.near, p.taken_is, sees.1, old);
-      planned = p.planned;
-    }
-
 pub next_in_plan : (plan : LanePlan) (put got : List Packet) (y : Packet) → IsPlanned plan put
     → slice_get put (length got) ≡ Some y → length got < length put → IsNext plan got y
 next_in_plan Any put got y fits next more = tt
@@ -91,19 +78,6 @@ takes_more plan room taken put me me' y p is next more = subst (Takes plan room 
       near = omega (arith, p.near);
       planned = p.planned;
     }
-
-pub takes_looked : (plan : LanePlan) (room taken put n : ℕ) (me me' : Seated)
-    → Takes plan room taken put me → sees_put (step room 0 0 0 none) me n me'
-    → Takes plan room taken n me'
-takes_looked plan room taken put n me me' p sees = subst (Takes plan room taken n) (sym sees.0) record {
-  seat = ap (λ (z : Seated). (knows_put z.0 me'.0.put, z.1)) p.seat;
-  taken_is = p.taken_is;
-  put_is = sym sees.1;
-  behind = sees.3;
-  near = omega (arith, p.taken_is, sees.1, sees.5);
-  planned = subst (λ (q : LanePlan). IsPlanned q me'.0.put)
-      (ap (λ (z : Seated). z.0.plan) p.seat) sees.4;
-}
 
 pub puts_first : (plan : LanePlan) (room : ℕ) (me : Seated) → me ≡ (putting plan [] [], [])
     → Puts plan room 0 0 me

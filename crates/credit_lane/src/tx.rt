@@ -36,6 +36,7 @@ impl LaneTx<'_> {
         self.room - (self.put - self.taken) as u32
     }
 
+    /// Puts a packet.
     pub fn put(&mut self, packet: Packet)
         requires room { length self.old.put < self.old.lane.room + self.old.taken }
         requires count { length self.old.put < 2 ^ 63 }
