@@ -25,6 +25,7 @@ pub record Receiver : Type 0 where
   pub frequency : Count
   pub notice : Notice
 
+-- exact where buffered is part of reached; a spelled reached may be below it
 abbrev pub transferred : Receiver → Count
 transferred r = less r.reached r.buffered
 

@@ -24,6 +24,7 @@ pub record Sender : Type 0 where
   -- the command of this state was sent since the state began
   pub commanded : Bool
 
+-- exact where outstanding is part of sent; a spelled sent may be below it
 abbrev pub known : Sender → Count
 known s = less s.sent s.outstanding
 

@@ -29,7 +29,7 @@ pub enum Policy {
 }
 
 impl Flow {
-    /// Whether a stream can run under this flow without ever waiting for good.
+    /// Whether the numbers of this flow are within their bounds.
     ///
     /// Rule: docs/streams.md, "Flow".
     pub fn valid(&self) -> bool

@@ -28,7 +28,7 @@ pub struct Gap {
 pub enum Arrived {
     /// It had the expected number and is buffered.
     Kept,
-    /// It is the first one behind a loss, and is dropped.
+    /// It had another number than the expected one, and is dropped; the end is broken.
     Gap { expected: u16, got: u16 },
     /// It came behind a gap, and is dropped.
     Discarded,
