@@ -1,5 +1,5 @@
 -- What several writes or reads move together.
-use Rattle.std.proofs.Common.{◌≡◌, ℕ, List, [], ◌++◌, take, drop, sym, ◌∙◌, ap, append_assoc, take-append-drop, length, ◌-◌}
+use Rattle.std.proofs.Common.{ℕ, List, [], ◌++◌, take, drop, sym, ◌∙◌, ap, append_assoc, take-append-drop, length, ◌-◌}
 use Rattle.std.proofs.lemmas.List.{take_rest}
 use Rattle.std.specs.Prelude.{Option, None, Some}
 use Rattle.std.proofs.lemmas.Grind.{common_steps}

@@ -1,4 +1,4 @@
-use Rattle.std.proofs.Common.{ℕ, List, ◌≤◌, length}
+use Rattle.std.proofs.Common.{◌≤◌, length}
 use Rattle.rf_outside.specs.Bytes.{AddsUpTo}
 use Rattle.rf_outside.proofs.loops.write_all.Given as goal
 
