@@ -1,7 +1,7 @@
 -- The directed link at a port, and one step of the program for the way.
 use Rattle.std.proofs.Common.{◌≡◌, ◌==◌, ◌&&◌, ℕ, suc, ◌+◌, ◌*◌, ◌<◌, ◌≤◌, true, false, List, [], ◌∷◌, ◌++◌, length, drop, None, Some, sym, ◌∙◌, ap, arith, append_assoc, eqb, if◌then◌else◌}
 use Rattle.std.proofs.lemmas.Bool.{eqb-true, eqb-false}
-use Rattle.net_topology.proofs.WayLemmas.{way_over-kept, way_over-there, way_over-back}
+use Rattle.net_topology.proofs.WayLemmas.{way_over-there, way_over-back}
 use Rattle.std.proofs.lemmas.List.{at_drop_more, at_drop_all}
 use Rattle.std.proofs.Math.Numerals.{add-one}
 use Rattle.net_topology.specs.declared.plan.LinkPlan.{LinkPlan}
@@ -24,16 +24,7 @@ pub across : (old near over new ps qs : List ℕ) (d : ℕ) → near ≡ old ++ 
 across old near over new ps qs d p q r =
     r ∙ ap (λ xs. xs ++ qs) (q ∙ ap (λ xs. xs ++ d ∷ []) p) ∙ append_assoc (old ++ ps) (d ∷ []) qs ∙ append_assoc old ps (d ∷ qs)
 
--- the way over no links
-pub way_over_none : (links : List LinkPlan) (k a b : ℕ) → k ≡ 0 → way_over links k a b ≡ []
-way_over_none links k a b e = ap (λ j. way_over links j a b) e
-
--- the way by the last of k links, in the program's three cases
-pub way_over_kept : (links : List LinkPlan) (k j a b : ℕ) (old new : List ℕ) → k ≡ j + 1 → eqb (part_of links j a) (part_of links j b) ≡ true → new ≡ old ++ way_over links j a b → new ≡ old ++ way_over links k a b
-way_over_kept links k j a b old new e same is =
-    let more : k ≡ suc j = e ∙ add-one j in
-    is ∙ ap (λ xs. old ++ xs) (sym (ap (λ i. way_over links i a b) more ∙ way_over-kept links j a b (eqb-true _ _ same)))
-
+-- the way by the last of k links, where that link joins its ends
 pub way_over_there : (links : List LinkPlan) (k j a b : ℕ) (l : LinkPlan) (old near over new : List ℕ) → k ≡ j + 1 → l ≡ link_of links j → eqb (part_of links j a) (part_of links j b) ≡ false → eqb (part_of links j a) (part_of links j l.a) ≡ true → near ≡ old ++ way_over links j a l.a → over ≡ near ++ (2 * j) ∷ [] → new ≡ over ++ way_over links j l.b b → new ≡ old ++ way_over links k a b
 way_over_there links k j a b l old near over new e is other here p q r =
     let more : k ≡ suc j = e ∙ add-one j in

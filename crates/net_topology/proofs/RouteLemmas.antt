@@ -8,14 +8,14 @@ use Rattle.chdr_words.specs.declared.epid.Epid.{Epid}
 use Rattle.net_topology.specs.declared.plan.NodePlan.{NodePlan}
 use Rattle.net_topology.specs.declared.plan.NodePlan.TheVariants.{Crossbar, Adapter, Host, Endpoint}
 use Rattle.net_topology.specs.declared.plan.Plan.{Plan}
-use Rattle.net_topology.specs.Leads.{Exits, IsRouted, has_table, turned_to, sent_on, LeadsOver, Leads}
+use Rattle.net_topology.specs.Leads.{Exits, HasTable, IsRouted, has_table, turned_to, sent_on, LeadsOver, Leads}
 use Rattle.net_topology.specs.Links.{link_of, back_of, start_of, end_of, start_port, end_port, IsWay, link_at}
 use Rattle.net_topology.specs.Parts.{way_of}
 use Rattle.net_topology.specs.Ranks.{MayFollow}
 use Rattle.net_topology.specs.Tree.{IsTree, ports_of, port_count, has_epid, node_with, HasPorts}
 use Rattle.net_topology.proofs.WalkLemmas.{start_of-even, start_of-odd}
 use Rattle.net_topology.proofs.RankLemmas.{parity, start_of-back, back_below}
-use Rattle.net_topology.proofs.LawLemmas.{only_way, end_there}
+use Rattle.net_topology.proofs.LawLemmas.{only_way}
 use Rattle.net_topology.proofs.CheckLemmas.{way_of_is_way}
 use Rattle.net_topology.proofs.PortLemmas.{LeavesBy, start_port-even, start_port-odd, start_port-back, one_leaves, link_at-start, way_goes_on, choose_true, choose_false}
 
@@ -67,7 +67,7 @@ module _ (plan : Plan) (tree : IsTree plan) where
       m.onward (one_leaves plan tree e (back_of d) (end_of plan.links d) (end_port plan.links d) m.there (back_below d (length plan.links) h) goes came)
 
   -- so the node has a table
-  pub table_between : (d e : ℕ) → d < 2 * length plan.links → MayFollow plan.links d e → option_map_or has_table (slice_get plan.nodes (end_of plan.links d)) false ≡ true
+  pub table_between : (d e : ℕ) → d < 2 * length plan.links → MayFollow plan.links d e → HasTable plan (end_of plan.links d)
   table_between d e h m =
       let out : start_port plan.links e < port_count plan.nodes (end_of plan.links d) = subst (λ x. start_port plan.links e < port_count plan.nodes x) m.starts (start_port_there e m.there) in
       let came : start_port plan.links (back_of d) < port_count plan.nodes (start_of plan.links (back_of d)) = start_port_there (back_of d) (back_below d (length plan.links) h) in
@@ -89,7 +89,7 @@ module _ (plan : Plan) (tree : IsTree plan) where
   leads_over exits z d (e ∷ ds) epid r n x w =
       let m = way_goes_on plan.links x z d e ds w in
       let rest : IsWay plan.links (end_of plan.links d) z (e ∷ ds) = (w.0.2, w.1.1) in
-      let entry = r (end_of plan.links d) z e ds epid (end_there plan tree d w.0.0) n (sym (only_way plan tree (end_of plan.links d) z (e ∷ ds) rest)) in
+      let entry = r (end_of plan.links d) z e ds epid (table_between d e w.0.0 m) n (sym (only_way plan tree (end_of plan.links d) z (e ∷ ds) rest)) in
       (sent_on-routed exits d e epid w.0.0 m entry, leads_over exits z e ds epid r n (end_of plan.links d) rest)
 
   -- a node that has an EPID has one port

@@ -38,9 +38,6 @@ passed-append links a d ps qs = ap (λ xs. a ∷ xs) (map-append (end_of links) 
 abbrev pub Forest : List LinkPlan → ℕ → Type 0
 Forest links k = (j : ℕ) → j < k → part_of links j (link_of links j).a ≢ part_of links j (link_of links j).b
 
-pub Forest-fewer : (links : List LinkPlan) (k : ℕ) → Forest links (suc k) → Forest links k
-Forest-fewer links k f j h = f j (omega arith)
-
 -- all these nodes are in one part
 abbrev pub InPart : List LinkPlan → ℕ → ℕ → List ℕ → Type 0
 InPart links k p [] = Unit {0}

@@ -1,5 +1,5 @@
 -- Where tables lead packets.
-use Rattle.std.specs.Prelude.{◌≡◌, ◌==◌, ◌<◌, ℕ, length, Bool, true, false, List, [], ◌∷◌, Option, None, Some, slice_get, if◌then◌else◌}
+use Rattle.std.specs.Prelude.{◌≡◌, ◌==◌, ℕ, Bool, true, false, List, [], ◌∷◌, Option, None, Some, slice_get, if◌then◌else◌}
 use Rattle.std.specs.Option.{option_and_then, option_map_or}
 use Rattle.chdr_words.specs.declared.epid.Epid.{Epid}
 use Rattle.net_topology.specs.declared.plan.NodePlan.{NodePlan}
@@ -15,6 +15,10 @@ has_table (Crossbar ports) = true
 has_table Adapter = true
 has_table (Host epid) = false
 has_table (Endpoint epid bank) = false
+
+-- node x passes packets on by a table
+abbrev pub HasTable : Plan → ℕ → Type 0
+HasTable plan x = option_map_or has_table (slice_get plan.nodes x) false ≡ true
 
 -- what the tables answer: a node's port for an EPID
 abbrev pub Exits : Type 0
@@ -52,4 +56,4 @@ pub record Leads (plan : Plan) (exits : Exits) (a b : Epid) : Type 0 where
 -- each table has, for each EPID of another node, the port of the first link of the way there
 abbrev pub IsRouted : Plan → Exits → Type 0
 IsRouted plan exits =
-    (x z d : ℕ) (ds : List ℕ) (epid : Epid) → x < length plan.nodes → node_with plan.nodes epid ≡ Some z → way_of plan.links x z ≡ d ∷ ds → exits x epid ≡ Some (start_port plan.links d)
+    (x z d : ℕ) (ds : List ℕ) (epid : Epid) → HasTable plan x → node_with plan.nodes epid ≡ Some z → way_of plan.links x z ≡ d ∷ ds → exits x epid ≡ Some (start_port plan.links d)

@@ -54,11 +54,15 @@ pub fn some_link_is_clear(plan: &Plan)
     let _ = plan;
 }
 
-/// A port names one directed link, and a packet that leaves by another port than it came by goes on.
+/// A port names the one directed link that leaves by it, and a packet that leaves by another port
+/// than it came by goes on.
 pub fn ports_name_links(plan: &Plan)
     requires { IsTree plan.now }
     ensures named { (d : ℕ) → d < 2 * length plan.now.links → link_at plan.now.links
         (start_of plan.now.links d) (start_port plan.now.links d) ≡ Some d }
+    ensures back { (d node port : ℕ) → link_at plan.now.links node port ≡ Some d
+        → (start_of plan.now.links d ≡ node) × (start_port plan.now.links d ≡ port)
+        × (d < 2 * length plan.now.links) }
     ensures onward { (d e port : ℕ) → port ≢ end_port plan.now.links d
         → link_at plan.now.links (end_of plan.now.links d) port ≡ Some e
         → MayFollow plan.now.links d e }
@@ -77,8 +81,8 @@ pub fn refusals_exclude_each_other(plan: &Plan)
     let _ = plan;
 }
 
-/// Tables that have, at each node, the next link of each way lead from every EPID to every EPID of
-/// another node.
+/// Tables that have, at each crossbar and adapter, the next link of each way lead from every EPID
+/// to every EPID of another node.
 pub fn routed_tables_lead(plan: &Plan)
     requires { IsTree plan.now }
     ensures { (exits : Exits) (a b : Epid) (x z : ℕ) → IsRouted plan.now exits

@@ -1,4 +1,4 @@
-//! The shape of a network: plans of nodes and links, which of them are trees, and the ways in a tree.
+//! The shape of a network: plans of nodes and links, which plans are trees, and the ways in a tree.
 #![tactic(auto)]
 
 mod check;

@@ -85,7 +85,6 @@ pub struct LinkPlan {
 }
 
 impl LinkPlan {
-    ghost use Rattle.std.specs.Prelude.{ℕ};
     ghost use Rattle.net_topology.specs.Tree.{uses_port, shares_port};
 
     /// Whether one end of the link is at this port of this node.

@@ -89,7 +89,7 @@ fn an_empty_plan_is_a_tree_where_its_room_is_good(rt: HostRuntime) -> Result<(),
 }
 
 /// What can be wrong with a plan, in the order in which it is refused.
-#[derive(Clone, Copy)]
+#[derive(Clone, Copy, PartialEq, Eq)]
 enum Flaw {
     Many,
     Duplicate,
@@ -145,7 +145,8 @@ fn refusal(flaw: Flaw, count: u32) -> PlanFault {
     }
 }
 
-/// What is answered for a plan with two flaws, and what should be.
+/// What is answered for a plan with these flaws, or with one where they are the same, and what
+/// should be.
 fn answers(
     alloc: Global,
     first: Flaw,
@@ -154,7 +155,9 @@ fn answers(
     let nodes = [host(1), crossbar(8), host(2)];
     let mut plan = plan(alloc, &nodes, &[(0, 0, 1, 0), (1, 1, 2, 0)], 4)?;
     spoil(&mut plan, first)?;
-    spoil(&mut plan, second)?;
+    if second != first {
+        spoil(&mut plan, second)?;
+    }
     let count = plan.nodes.len().min(1000) as u32;
     Ok((checked(alloc, &plan).err(), refusal(first, count)))
 }
