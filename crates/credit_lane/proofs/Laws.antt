@@ -1,5 +1,5 @@
 -- The rule of a lane, read as its law.
-use Rattle.std.proofs.Common.{◌≡◌, ℕ, true, List, length, Option, ap, sym, ◌∙◌, true≢false, arith}
+use Rattle.std.proofs.Common.{◌≡◌, ℕ, true, List, length, slice_get, Option, ap, sym, ◌∙◌, true≢false, arith}
 use mathlib.Core.Option.{some}
 use Rattle.std.proofs.lemmas.Option.{slice_get_past}
 use Rattle.atomic_table.specs.Table.{State}
@@ -8,7 +8,7 @@ use Rattle.credit_lane.specs.declared.plan.LanePlan.{LanePlan}
 use Rattle.credit_lane.specs.declared.rule.View.{View}
 use Rattle.credit_lane.specs.Law.{IsLawful, IsPutter, IsTaker}
 use Rattle.credit_lane.specs.Rule.{IsLane, IsCourse, Course, Knows, Homes}
-use Rattle.credit_lane.proofs.Prefixes.{no_longer}
+use Rattle.credit_lane.proofs.Prefixes.{no_longer, get_in_longer}
 
 module _ (plan : LanePlan) (words : List ℕ) (homes : Homes) (c : Course)
     (st : IsCourse plan (length homes) words homes c) (id : ℕ) (v : View) (kn : Knows plan c id v)
@@ -22,7 +22,7 @@ module _ (plan : LanePlan) (words : List ℕ) (homes : Homes) (c : Course)
               (λ f same. true≢false (sym f ∙ sym own.3 ∙ none))
               (λ e same. let before = st.emptying e in absurd (omega arith))
               ∙ ap (λ (o : Option Packet). some (some o)) (slice_get_past c.put (length c.put) (omega arith));
-          held = λ some_held. st.filling (sym own.3 ∙ some_held);
+          held = λ holds. st.filling (sym own.3 ∙ holds);
         }
 
     taker_of_course : v.takes ≡ true → IsTaker plan homes c.put c.got v
@@ -31,7 +31,11 @@ module _ (plan : LanePlan) (words : List ℕ) (homes : Homes) (c : Course)
       own = own.2;
       home = λ none more. st.slots (length c.got) (omega arith) (omega arith)
           (λ f same. absurd (omega arith)) (λ e same. true≢false (sym e ∙ sym own.3 ∙ none));
-      held = λ some_held. st.emptying (sym own.3 ∙ some_held);
+      held = λ holds. (
+        st.emptying (sym own.3 ∙ holds),
+        get_in_longer v.put c.put (length v.got) kn.put_seen (own.4 holds)
+            ∙ ap (λ (l : List Packet). slice_get c.put (length l)) own.2,
+      );
     }
 
 pub lawful : (plan : LanePlan) (s : State (Option Packet) View) → IsLane plan s → IsLawful plan s

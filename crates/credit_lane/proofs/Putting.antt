@@ -165,7 +165,13 @@ module _ (plan : LanePlan) where
               got_heard = kn.got_heard;
               putting = λ _.
                   (refl, mine.1, refl, refl);
-              taking = kn.taking;
+              taking = λ t. let o = kn.taking t in (
+                o.0,
+                o.1,
+                o.2,
+                o.3,
+                λ e. let lt = o.4 e in let one = length-append v.put (x ∷ []) in omega arith,
+              );
             }
             (beside_putter plan c id (v.put ++ x ∷ []) false mine.0
             (subst (λ (l : List Packet). IsPrefix l (v.put ++ x ∷ [])) mine.2
@@ -190,7 +196,13 @@ module _ (plan : LanePlan) where
               put_heard = kn.put_heard;
               got_heard = kn.got_heard;
               putting = kn.putting;
-              taking = λ t. let other = kn.taking t in (other.0, other.1, refl, other.3);
+              taking = λ t. let other = kn.taking t in (
+                other.0,
+                other.1,
+                refl,
+                other.3,
+                λ e. subst (λ (l : List Packet). length l < length me.0.put) other.2 (other.4 e),
+              );
             },
         (
           refl,

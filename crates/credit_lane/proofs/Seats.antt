@@ -15,6 +15,7 @@ use Rattle.credit_lane.specs.Planned.{IsPlanned}
 use Rattle.block_library.specs.Producer.{produced}
 use Rattle.credit_lane.specs.Rule.{Course, IsCourse, Knows, IsLane, opened, spent, putter_of, taker_of}
 use Rattle.credit_lane.specs.Rule.{copy_of, joined}
+use Rattle.credit_lane.proofs.Prefixes.{no_longer}
 use Rattle.credit_lane.proofs.Steps.{Lanes}
 
 at_end : {A : Type 0} (l : List A) (a b : A) (j : ℕ) → get_elem? (l ++ a ∷ []) j ≡ some b →
@@ -89,7 +90,7 @@ module _ (plan : LanePlan) where
         put_heard = nothing_begins c.put;
         got_heard = nothing_begins c.got;
         putting = λ t. absurd (true≢false (sym t));
-        taking = λ _. (refl, mine.1, mine.2, mine.3);
+        taking = λ _. (refl, mine.1, mine.2, mine.3, mine.4);
       }
       (λ j w ne k. record {
         put_seen = k.put_seen;
@@ -196,7 +197,14 @@ module _ (plan : LanePlan) where
         put_heard = ko.put_seen;
         got_heard = kn.got_seen;
         putting = kn.putting;
-        taking = λ _. (refl, mine.1, its.2, its.3);
+        taking = λ _. (
+          refl,
+          mine.1,
+          its.2,
+          its.3,
+          λ e. let lt = its.4 e in let seen = no_longer w.put c.put ko.put_seen in
+              let same = ap length mine.2 in omega arith,
+        );
       }
       (beside_both c id other its.0)
 
@@ -213,7 +221,7 @@ module _ (plan : LanePlan) where
         put_heard = ko.put_heard;
         got_heard = ko.got_heard;
         putting = λ t. absurd (true≢false (sym t ∙ idle));
-        taking = λ _. (refl, its.1, its.2, its.3);
+        taking = λ _. (refl, its.1, its.2, its.3, its.4);
       }
       (beside_both c id other its.0)
 
@@ -257,7 +265,7 @@ starts plan n pos = let m : ℕ = length (map some (replicate {A = Option Packet
             put_heard = nothing_begins [];
             got_heard = nothing_begins [];
             putting = λ _. (t.0, refl, refl, refl);
-            taking = λ _. (t.0, refl, refl, refl);
+            taking = λ _. (t.0, refl, refl, refl, λ e. absurd (true≢false (sym e)));
           })
           (at_end [] (opened plan) v j e);
     }

@@ -74,7 +74,7 @@ module _ (plan : LanePlan) where
               put_heard = kn.put_heard;
               got_heard = subst (IsPrefix me.0.heard_got) (sym mine.2) kn.got_heard;
               putting = kn.putting;
-              taking = λ _. (refl, mine.1, refl, refl);
+              taking = λ _. (refl, mine.1, refl, refl, λ _. more);
             }
             (beside_taker plan c id me.0.got true mine.0
             (subst (IsPrefix c.got) (sym mine.2) (begins_itself c.got))),
@@ -155,7 +155,7 @@ module _ (plan : LanePlan) where
               got_heard = begins_longer v.heard_got v.got (y ∷ [])
                   (subst (IsPrefix v.heard_got) (sym mine.2) kn.got_heard);
               putting = kn.putting;
-              taking = λ _. (refl, mine.1, refl, refl);
+              taking = λ _. (refl, mine.1, refl, refl, λ e. absurd (true≢false (sym e)));
             }
             (beside_taker plan c id (v.got ++ y ∷ []) false mine.0
             (subst (λ (l : List Packet). IsPrefix l (v.got ++ y ∷ [])) mine.2
@@ -180,7 +180,14 @@ module _ (plan : LanePlan) where
               put_heard = kn.put_heard;
               got_heard = kn.got_heard;
               putting = λ t. let other = kn.putting t in (other.0, other.1, refl, other.3);
-              taking = kn.taking;
+              taking = λ t. let own = kn.taking t in (
+                own.0,
+                own.1,
+                own.2,
+                own.3,
+                λ e. let lt = own.4 e in let seen = no_longer me.0.put c.put kn.put_seen in
+                    omega arith,
+              );
             },
         (
           refl,

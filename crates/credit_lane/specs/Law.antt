@@ -9,6 +9,7 @@ use Rattle.chdr_packets.specs.declared.packet.Packet.{Packet}
 use Rattle.credit_lane.specs.declared.plan.LanePlan.{LanePlan}
 use Rattle.credit_lane.specs.declared.rule.View.{View}
 use Rattle.credit_lane.specs.Planned.{IsPlanned}
+use Rattle.credit_lane.specs.Plays.{next_of}
 use Rattle.credit_lane.specs.Rule.{Homes}
 
 -- what the rule says of a seat: it knows beginnings of both lists
@@ -16,8 +17,8 @@ pub record IsSeat (put got : List Packet) (v : View) : Type 0 where
   pub put_seen : IsPrefix v.put put
   pub got_seen : IsPrefix v.got got
 
--- what it says of the putting end: it knows put, and the slot of the next packet to put is home and
--- empty unless its view says that it holds that slot
+-- what it says of the putting end: it knows put, and the slot of the next packet to put is home
+-- and empty unless its view says that it holds that slot
 pub record IsPutter (plan : LanePlan) (homes : Homes) (put got : List Packet) (v : View) : Type 0 where
   pub plans : v.plan ≡ plan
   pub own : v.put ≡ put
@@ -25,14 +26,16 @@ pub record IsPutter (plan : LanePlan) (homes : Homes) (put got : List Packet) (v
       → get_elem? homes (length put % length homes) ≡ some (some None)
   pub held : v.fills ≡ true → length put < length got + length homes
 
--- what it says of the taking end: it knows got, and the slot of the first packet that isn't taken is
--- home with that packet unless its view says that it holds that slot
-pub record IsTaker (plan : LanePlan) (homes : Homes) (put got : List Packet) (v : View) : Type 0 where
+-- what it says of the taking end: it knows got, and the slot of the first packet that isn't taken
+-- is home with that packet unless its view says that it holds that slot, and which packet is in it
+pub record IsTaker (plan : LanePlan) (homes : Homes) (put got : List Packet) (v : View)
+    : Type 0 where
   pub plans : v.plan ≡ plan
   pub own : v.got ≡ got
   pub home : v.empties ≡ false → length got < length put
       → get_elem? homes (length got % length homes) ≡ some (some (slice_get put (length got)))
-  pub held : v.empties ≡ true → length got < length put
+  pub held : v.empties ≡ true
+      → (length got < length put) × (next_of v ≡ slice_get put (length got))
 
 -- one seat at most plays this part
 abbrev pub IsOne : (View → Bool) → List View → Type 0

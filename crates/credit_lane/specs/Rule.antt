@@ -45,7 +45,7 @@ pub record IsCourse (plan : LanePlan) (room : ℕ) (words : List ℕ) (homes : H
   pub slots : (k : ℕ) → length c.got ≤ k → k < length c.got + room → Lies room c homes k
 
 -- what the view of a seat has to do with the lists: an end knows its own list, and each seat a
--- beginning of both
+-- beginning of both; a taker that holds its slot knows the packet in it
 pub record Knows (plan : LanePlan) (c : Course) (id : ℕ) (v : View) : Type 0 where
   pub put_seen : IsPrefix v.put c.put
   pub got_seen : IsPrefix v.got c.got
@@ -55,6 +55,7 @@ pub record Knows (plan : LanePlan) (c : Course) (id : ℕ) (v : View) : Type 0 w
       → (id ≡ c.putter) × (v.plan ≡ plan) × (v.put ≡ c.put) × (v.fills ≡ c.fills)
   pub taking : v.takes ≡ true
       → (id ≡ c.taker) × (v.plan ≡ plan) × (v.got ≡ c.got) × (v.empties ≡ c.empties)
+      × (v.empties ≡ true → length v.got < length v.put)
 
 pub record IsLane (plan : LanePlan) (s : State (Option Packet) View) : Type 0 where
   pub course : Course
