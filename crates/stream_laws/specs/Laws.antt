@@ -98,7 +98,8 @@ StopsAtLoss terms st = EachEpoch
 abbrev pub epochs : {A : Type 0} → State A → ℕ
 epochs st = length st.cuts + 1
 
--- Each epoch after the first was begun by a loss of its own.
+-- There is at most one epoch more than there were losses. This counts both, and says of no epoch which
+-- loss it follows.
 abbrev pub HasFewEpochs : {A : Type 0} → Terms → State A → Type 0
 HasFewEpochs terms st = epochs st ≤ 1 + st.losses
 

@@ -45,8 +45,8 @@ pub fn epochs_are_few<P>()
     ensures law { Always {A = P} HasFewEpochs }
 {}
 
-/// What is spelled modulo a power of 2 tells the whole number: in a status that arrives, in a RESYNC
-/// that arrives, and in a packet's number.
+/// What is spelled modulo a power of 2 tells the whole number: in a status that arrives, in a
+/// RESYNC that arrives, and in a packet's number.
 pub fn spellings_tell<P>()
     ensures counts { Always {A = P} ReadsBack }
     ensures totals { Always {A = P} TellsTotals }

@@ -1,8 +1,8 @@
 //! The laws of one stream: what holds in each state that a legal run of its machine leaves.
 //!
-//! The machine stands in specs/Machine.antt and specs/Acts.antt: its acts work by the rules of both
-//! ends that the calls of `stream_endpoint` keep. A law is what a function here ensures; `P` is what a
-//! packet is beside its wire size.
+//! The machine stands in specs/Machine.antt and specs/Acts.antt: its acts work by the rules of
+//! both ends that the calls of `stream_endpoint` keep. A law is what a function here ensures; `P`
+//! is what a packet is beside its wire size.
 #![tactic(auto)]
 
 mod ends;
