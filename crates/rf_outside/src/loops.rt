@@ -9,6 +9,7 @@ use rf_base::Items;
 use std::alloc::Global;
 
 /// All bytes of the source, up to its end.
+#[tactic(auto, using(crate::proofs::Moved::consumes_keeps))]
 pub fn read_all<S: Source>(alloc: Global, src: &mut S, limit: usize) -> Result<Bytes, ReadAllFault>
     ensures whole { IfOk result (λ bytes. Consumes (S.left src.old) (S.left src.new) bytes) }
     ensures ended { OnOk result (IsAtEnd (S.left src.new)) }
@@ -16,6 +17,8 @@ pub fn read_all<S: Source>(alloc: Global, src: &mut S, limit: usize) -> Result<B
     ensures too_long { IsErrOf result ReadAllFault.TooLong →
         ((bytes : List ℕ) × Consumes (S.left src.old) (S.left src.new) bytes × (limit < length bytes)) }
     ensures failed { IsErrOf result ReadAllFault.Failed → Rose (S.faults src.old) (S.faults src.new) }
+    ensures before { IsErrOf result ReadAllFault.Failed →
+        ((bytes : List ℕ) × Consumes (S.left src.old) (S.left src.new) bytes × (length bytes ≤ limit)) }
     ensures later { S.faults src.old ≤ S.faults src.new }
 {
     let mut bytes = Vec::new(alloc);

@@ -29,7 +29,15 @@ impl Model for MemSink {
 
     ghost Value = { Kept };
 
-    ghost view = { λ s. record { bytes = s.bytes.items; room = s.room; past = s.past; cuts = s.cuts; fails = s.fails; calls = s.calls; faults = s.faults } };
+    ghost view = { λ s. record {
+      bytes = s.bytes.items;
+      room = s.room;
+      past = s.past;
+      cuts = s.cuts;
+      fails = s.fails;
+      calls = s.calls;
+      faults = s.faults;
+    } };
 
     ghost invariant = { λ s. (vec_len s.bytes ≤ s.room) × (s.room ≤ vec_capacity s.bytes) };
 }

@@ -1,6 +1,6 @@
 ghost use Rattle.std.specs.Prelude.{◌≡◌, ℕ, None, Option, List};
 ghost use Rattle.std.specs.Io.{ReadsAtMost};
-ghost use Rattle.std.specs.Io.KnownBytes.{ReadConsumes};
+ghost use Rattle.std.specs.Io.KnownBytes.{ReadConsumes, WriteAppends};
 ghost use Rattle.rf_outside.specs.Bytes.{Writes};
 ghost use Rattle.rf_outside.specs.Causes.{CountsFaults, HasCause};
 
@@ -46,7 +46,7 @@ impl<R: Read> Source for StdSource<R> {
 
 /// The adapter over a writer of std; an error, and a piece of which nothing is taken, are faults.
 ///
-/// It tells no bytes.
+/// It tells no bytes; where the writer does, it holds what the sink took.
 #[derive(Debug, Drop)]
 pub struct StdSink<W> {
     inner: W,
@@ -61,6 +61,7 @@ impl<W: Write> StdSink<W> {
     }
 }
 
+#[tactic(auto, using(crate::proofs::Moved::appends_none))]
 impl<W: Write> Sink for StdSink<W> {
     ghost written = { λ _. None };
 
@@ -70,6 +71,8 @@ impl<W: Write> Sink for StdSink<W> {
         ensures bytes { Writes None None result piece.now }
         ensures cause { HasCause self.old.faults self.new.faults result }
         ensures faults { CountsFaults self.old.faults self.new.faults result }
+        ensures contents { WriteAppends (W.contents self.old.inner) (W.contents self.new.inner)
+            result piece.now }
     {
         match self.inner.write(piece) {
             Ok(count) if count > 0 || piece.is_empty() => Ok(count),

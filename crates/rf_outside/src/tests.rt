@@ -5,7 +5,7 @@ use crate::{
 use chdr_words::Bytes;
 use rf_base::{Items, Memory};
 use std::alloc::Global;
-use std::io::Cursor;
+use std::io::{Cursor, ErrorKind, Read, Write};
 use std::test::Fail;
 
 fn bytes_of(alloc: Global, bytes: &[u8]) -> Result<Bytes, Memory> {
@@ -92,7 +92,48 @@ fn readers_and_writers_of_std_are_adapted(rt: HostRuntime) -> Result<(), Fail> {
     let mut source = StdSource::new(Cursor::new(text.as_slice()));
     let read = read_all(rt.alloc(), &mut source, 3);
     assert!(rt; read == Ok(bytes_of(rt.alloc(), &text)?));
-    let mut sink = StdSink::new(Vec::new(rt.alloc()));
+    let mut kept = Vec::new(rt.alloc());
+    let mut sink = StdSink::new(&mut kept);
     assert_eq!(rt; sink.write(&text), Ok(3));
+    assert_eq!(rt; write_all(&mut sink, &[4, 5]), Ok(()));
+    assert_eq!(rt; kept.as_slice(), [1u8, 2, 3, 4, 5].as_slice());
+    Ok(())
+}
+
+#[test]
+fn a_writer_that_takes_nothing_fails(rt: HostRuntime) -> Result<(), Fail> {
+    let mut room = [0u8; 2];
+    let mut sink = StdSink::new(room.as_mut_slice());
+    assert_eq!(rt; sink.write(b"abc"), Ok(2));
+    assert_eq!(rt; sink.write(b"c"), Err(Failed));
+    assert_eq!(rt; sink.write(b""), Ok(0));
+    assert_eq!(rt; room, *b"ab");
+    Ok(())
+}
+
+/// A reader and a writer that always answer an error.
+#[derive(Drop)]
+struct Broken;
+
+impl Read for Broken {
+    fn read(&mut self, _buf: &mut [u8]) -> std::io::Result<usize> {
+        Err(ErrorKind::BrokenPipe.into())
+    }
+}
+
+impl Write for Broken {
+    fn write(&mut self, _buf: &[u8]) -> std::io::Result<usize> {
+        Err(ErrorKind::BrokenPipe.into())
+    }
+
+    fn flush(&mut self) -> std::io::Result<()> {
+        Ok(())
+    }
+}
+
+#[test]
+fn an_error_of_std_is_a_failure(rt: HostRuntime) -> Result<(), Fail> {
+    assert_eq!(rt; StdSource::new(Broken).read(&mut [0u8; 4]), Err(Failed));
+    assert_eq!(rt; StdSink::new(Broken).write(b"abc"), Err(Failed));
     Ok(())
 }
