@@ -1,6 +1,6 @@
 use crate::{
-    DATA_PACKET, INFORMATION_RESPONSE, LONG_CONTROL_PACKET, RESYNC_COMMAND, SEQUENCE_ERROR_INFO,
-    SHORT_CONTROL_PACKET, STATUS_PACKET, UNFINISHED_HOP,
+    DATA_PACKET, INFORMATION_RESPONSE, LONG_CONTROL_PACKET, MISCOUNTED_HOP, RESYNC_COMMAND,
+    SEQUENCE_ERROR_INFO, SHORT_CONTROL_PACKET, STATUS_PACKET,
 };
 use chdr_packets::{Body, Packet, PacketFault, decode, encode, fits};
 use chdr_stream::{Decoder, FinishFault};
@@ -176,9 +176,9 @@ fn an_information_response_is_written(rt: HostRuntime) -> Result<(), Fail> {
 }
 
 #[test]
-fn an_unfinished_hop_is_refused(rt: HostRuntime) {
+fn a_miscounted_hop_is_refused(rt: HostRuntime) {
     let fault = PacketFault::Message(MsgFault::BadManagement);
-    assert_eq!(rt; decode(rt.alloc(), &UNFINISHED_HOP).err(), Some(fault));
+    assert_eq!(rt; decode(rt.alloc(), &MISCOUNTED_HOP).err(), Some(fault));
 }
 
 #[test]
@@ -231,7 +231,7 @@ fn a_packet_cut_anywhere_is_truncated(rt: HostRuntime) -> Result<(), Fail> {
         STATUS_PACKET.as_slice(),
         SHORT_CONTROL_PACKET.as_slice(),
         LONG_CONTROL_PACKET.as_slice(),
-        UNFINISHED_HOP.as_slice(),
+        MISCOUNTED_HOP.as_slice(),
         RESYNC_COMMAND.as_slice(),
     ];
     assert_eq!(rt; end_of(rt.alloc(), &[])?, Some(Ok(())));
@@ -267,7 +267,7 @@ fn a_turned_bit_gives_no_packet_or_one_that_comes_back(rt: HostRuntime) -> Resul
         (STATUS_PACKET.as_slice(), 0xff00_ffff_0000_ffff),
         (SHORT_CONTROL_PACKET.as_slice(), 0xff40_ffff_0000_ffff),
         (LONG_CONTROL_PACKET.as_slice(), 0xff40_ffff_0000_ffff),
-        (UNFINISHED_HOP.as_slice(), 0x0020_0000_0000_0000),
+        (MISCOUNTED_HOP.as_slice(), 0x0020_0000_0000_0000),
         (RESYNC_COMMAND.as_slice(), 0xff80_ffff_0000_ffffu64),
     ];
     for (vector, want) in cases {

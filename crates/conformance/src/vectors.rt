@@ -8,7 +8,9 @@ pub const DATA_PACKET: [u8; 16] = [
     0, 0, 0, 0, 0, 0, 0, 0, // payload
 ];
 
-/// Endpoint 2 tells endpoint 1: room for 4,096 bytes and 16 packets, 48 bytes and 3 packets transferred.
+/// Endpoint 2 tells endpoint 1: room for 4,096 bytes and 16 packets.
+///
+/// 48 bytes and 3 packets were transferred.
 pub const STATUS_PACKET: [u8; 40] = [
     1, 0, // destination
     40, 0, // Length
@@ -72,8 +74,10 @@ pub const INFORMATION_RESPONSE: [u8; 8] = [
     0, 0, // the high bits of what it tells: arrival port 0
 ];
 
-/// Endpoint 1's one hop of an operation with one pending, behind which none has none; refused.
-pub const UNFINISHED_HOP: [u8; 40] = [
+/// Endpoint 1's one hop, refused: its first operation has one pending, and the second one again.
+///
+/// One with none pending must follow one with one.
+pub const MISCOUNTED_HOP: [u8; 40] = [
     0, 0, // destination
     40, 0, // Length
     0, 0, // number
@@ -82,7 +86,7 @@ pub const UNFINISHED_HOP: [u8; 40] = [
     1, 0, // one hop
     0, 0, 0, 1, // reserved bits, width, version 0x0100
     1, 0, 0, 0, 0, 0, 0, 0, // NOP, one pending
-    1, 0, 0, 0, 0, 0, 0, 0, // NOP, again one pending
+    1, 0, 0, 0, 0, 0, 0, 0, // NOP, one pending where none must be
     0, 0, 0, 0, 0, 0, 0, 0, // NOP, none pending
 ];
 
