@@ -50,13 +50,6 @@ lines-more done x = flat_map_more line_of [] done x
 pub page_none : (begun : Option (List ℕ)) (text : List ℕ) → text ≡ [] → Page begun begun text (record { packets = 0; canonical = 0 }) []
 page_none begun text none = record { counted = refl; lines = record { front = []; splits = sym none; added = Adds-none begun } }
 
--- its line is in the text
-pub lined : (begun now : Option (List ℕ)) (text text2 : List ℕ) (done : List Placed) (x : Placed) → text2 ≡ text ++ line_of x → AddsUpTo begun now (lines_of done) text
-    → AddsUpTo begun now (lines_of (done ++ x ∷ [])) text2
-lined begun now text text2 done x e u =
-    subst (λ (t : List ℕ). AddsUpTo begun now (lines_of (done ++ x ∷ [])) t) (sym e)
-    (subst (λ (l : List ℕ). AddsUpTo begun now l (text ++ line_of x)) (lines-more done x) (up_to-append begun now (lines_of done) text (line_of x) u))
-
 -- the line isn't in the text, since memory ran out
 pub unlined : (begun now : Option (List ℕ)) (text : List ℕ) (done : List Placed) (x : Placed) → AddsUpTo begun now (lines_of done) text → Torn begun now (done ++ x ∷ [])
 unlined begun now text done x u = subst (λ (l : List ℕ). AddsPrefix begun now l) (lines-more done x) (prefix-append begun now (lines_of done) (line_of x) (text, u))

@@ -179,23 +179,6 @@ began P fed d s = record {
   stands = s.stands;
 }
 
-after_parts : (at : ℕ) (kept : List ℕ) (fault : Option PacketFault) (d2 : Stream) (place : ℕ) (found_fault : PacketFault)
-    → stands place found_fault ≡ passing_at (at_of at kept fault) (reading (at_of at kept fault)) → d2 ≡ after (at_of at kept fault) (reading (at_of at kept fault)) → (d2.at ≡ at) × (d2.kept ≡ kept)
-after_parts at kept (Some fault) d2 place found_fault e a = (ap (λ (s : Stream). s.at) a, ap (λ (s : Stream). s.kept) a)
-after_parts at kept None d2 place found_fault e a = cases (packet_read kept) refl e a
-  where
-    cases : (r : Result (Option (Packet × ℕ)) PacketFault) → packet_read kept ≡ r → stands place found_fault ≡ passing_at (at_of at kept None) r → d2 ≡ after (at_of at kept None) r → (d2.at ≡ at) × (d2.kept ≡ kept)
-    cases (Ok None) is e a = absurd cc
-    cases (Ok (Some x)) is e a = absurd cc
-    cases (Err other) is e a = (ap (λ (s : Stream). s.at) a, ap (λ (s : Stream). s.kept) a)
-
-pub bounded_stopped : (d d2 : Stream) (counts : Counts) (place : ℕ) (fault : PacketFault) → stands place fault ≡ passing_at d (reading d) → d2 ≡ after d (reading d)
-    → Bounded d counts → Bounded d2 counts × (d2.at + length d2.kept ≡ d.at + length d.kept)
-bounded_stopped d d2 counts place fault e a b =
-    let p = after_parts d.at d.kept d.fault d2 place fault e a in
-    let len = ap length p.1 in
-    (record { within = omega (arith, b.within, p.0, len); packets = omega (arith, b.packets, p.0); canonical = b.canonical }, omega (arith, p.0, len))
-
 -- ---- what is found in the end
 
 finds_at : (P : List Placed → Type 0) (bytes : List ℕ) (long : Bool) (c : Capture) (done : List Placed) (fault : Option Fault) → ltb limit (length bytes) ≡ long → capture_of (take limit bytes) ≡ c

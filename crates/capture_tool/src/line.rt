@@ -1,6 +1,6 @@
 //! The line of a packet.
 //!
-//! Rule: specs/Listing.antt.
+//! Rule: docs/scripts-and-reports.md, "Listing and check".
 ghost use Rattle.std.specs.Prelude.{◌≡◌, ◌<◌, ◌^◌, ◌++◌, codes, decimal, length, OnOk};
 ghost use Rattle.std.specs.List.{sum_by};
 ghost use Rattle.capture_tool.specs.Names.{◌&◌, cmd_op_text, ctrl_op_text, ctrl_status_text, status_code_text};
@@ -57,7 +57,8 @@ fn put_time(out: &mut Vec<u8>, time: Option<u64>) -> Result<(), Memory>
 
 fn put_status_start(out: &mut Vec<u8>, status: &Status) -> Result<(), Memory>
     ensures { OnOk result (out.new.items ≡ out.old.items ++
-        (codes " code " & status_code_text status.now.code & codes " src " & decimal status.now.src.0)) }
+        (codes " code " & status_code_text status.now.code
+        & codes " src " & decimal status.now.src.0)) }
 {
     put(out, b" code ")?;
     put_status_code(out, status.code)?;

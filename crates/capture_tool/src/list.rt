@@ -4,7 +4,7 @@ ghost use Rattle.std.specs.Io.KnownBytes.{IsAtEnd};
 ghost use Rattle.rf_outside.specs.Bytes.{Adds, AddsPrefix, AddsUpTo};
 ghost use Rattle.rf_outside.specs.Causes.{Rose};
 ghost use Rattle.chdr_stream.specs.declared.placed.Placed.{Placed};
-ghost use Rattle.capture_tool.specs.Listing.{last_line, lines_of, listed, ops_of};
+ghost use Rattle.capture_tool.specs.Listing.{last_line, listed, ops_of};
 ghost use Rattle.capture_tool.specs.Page.{BreaksOff, GoesOn, Page, Torn};
 ghost use Rattle.capture_tool.specs.Seen.{Began, Bounded, Finds, Leaves, Scanned, fault_of, one_more};
 
@@ -24,9 +24,11 @@ const ROOM: usize = FULL + 1024;
 
 /// Writes the text and begins anew.
 fn flush<K: Sink>(out: &mut K, text: &mut Vec<u8>) -> Result<(), Stop>
-    ensures whole { OnOk result (GoesOn (K.written out.old) (K.written out.new) text.old.items text.new.items) }
+    ensures whole { OnOk result
+        (GoesOn (K.written out.old) (K.written out.new) text.old.items text.new.items) }
     ensures empty { OnOk result (text.new.items ≡ []) }
-    ensures prefix { OnErr result (BreaksOff (K.written out.old) (K.written out.new) text.old.items) }
+    ensures prefix { OnErr result
+        (BreaksOff (K.written out.old) (K.written out.new) text.old.items) }
     ensures only { IfErr result (λ stop. stop ≡ Stop.Write) }
     ensures fault { OnErr result (Rose (K.faults out.old) (K.faults out.new)) }
     ensures later { K.faults out.old ≤ K.faults out.new }
@@ -42,8 +44,10 @@ fn flush<K: Sink>(out: &mut K, text: &mut Vec<u8>) -> Result<(), Stop>
 
 /// Writes the text where there is much of it.
 fn flush_full<K: Sink>(out: &mut K, text: &mut Vec<u8>) -> Result<(), Stop>
-    ensures whole { OnOk result (GoesOn (K.written out.old) (K.written out.new) text.old.items text.new.items) }
-    ensures prefix { OnErr result (BreaksOff (K.written out.old) (K.written out.new) text.old.items) }
+    ensures whole { OnOk result
+        (GoesOn (K.written out.old) (K.written out.new) text.old.items text.new.items) }
+    ensures prefix { OnErr result
+        (BreaksOff (K.written out.old) (K.written out.new) text.old.items) }
     ensures only { IfErr result (λ stop. stop ≡ Stop.Write) }
     ensures fault { OnErr result (Rose (K.faults out.old) (K.faults out.new)) }
     ensures later { K.faults out.old ≤ K.faults out.new }
@@ -123,7 +127,8 @@ fn list<S: Source, K: Sink>(
 ) -> Result<Seen, Stop>
     requires { text.old.items ≡ [] }
     ensures page { IfOk result (λ seen. IfSome (S.left src.old) (λ bytes.
-        Finds (Page (K.written out.old) (K.written out.new) text.new.items seen.counts) bytes seen.fault)) }
+        Finds (Page (K.written out.old) (K.written out.new) text.new.items seen.counts)
+        bytes seen.fault)) }
     ensures prefix { OnErr result (IfSome (S.left src.old) (λ bytes.
         AddsPrefix (K.written out.old) (K.written out.new) (listed bytes))) }
     ensures ended { IfOk result (λ seen. seen.fault ≡ None → IsAtEnd (S.left src.new)) }
@@ -161,10 +166,12 @@ fn list<S: Source, K: Sink>(
 fn list_last<K: Sink>(out: &mut K, text: &mut Vec<u8>, seen: &Seen) -> Result<(), Stop>
     ensures whole { OnOk result ((begun : Option (List ℕ)) (lines : List ℕ) →
         AddsUpTo begun (K.written out.old) lines text.old.items →
-        Adds begun (K.written out.new) (lines ++ last_line seen.now.counts.packets seen.now.fault)) }
+        Adds begun (K.written out.new)
+        (lines ++ last_line seen.now.counts.packets seen.now.fault)) }
     ensures prefix { OnErr result ((begun : Option (List ℕ)) (lines : List ℕ) →
         AddsUpTo begun (K.written out.old) lines text.old.items →
-        AddsPrefix begun (K.written out.new) (lines ++ last_line seen.now.counts.packets seen.now.fault)) }
+        AddsPrefix begun (K.written out.new)
+        (lines ++ last_line seen.now.counts.packets seen.now.fault)) }
     ensures only { result ≢ Err Stop.Read }
     ensures fault { result ≡ Err Stop.Write → Rose (K.faults out.old) (K.faults out.new) }
     ensures later { K.faults out.old ≤ K.faults out.new }

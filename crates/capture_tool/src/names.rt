@@ -1,5 +1,5 @@
 //! The names of codes in a listing.
-ghost use Rattle.std.specs.Prelude.{◌≡◌, ◌++◌, decimal, OnOk};
+ghost use Rattle.std.specs.Prelude.{◌≡◌, ◌++◌, OnOk};
 ghost use Rattle.capture_tool.specs.Names.{cmd_op_text, ctrl_op_text, ctrl_status_text, status_code_text};
 
 use crate::text::{put, put_field};

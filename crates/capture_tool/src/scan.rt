@@ -1,5 +1,5 @@
 //! Reading a capture to its end, its first fault or the limit.
-ghost use Rattle.std.specs.Prelude.{◌≡◌, ◌≢◌, ◌+◌, ◌*◌, ◌<◌, ◌≤◌, ◌^◌, List, ℕ, Some, None, Ok, Err, length, take, IfSome, IfOk, IfErr, OnOk, if◌then◌else◌};
+ghost use Rattle.std.specs.Prelude.{◌≡◌, ◌≢◌, ◌+◌, ◌<◌, ◌≤◌, ◌^◌, List, ℕ, Some, None, Err, length, take, IfSome, IfOk, IfErr, OnOk};
 ghost use Rattle.std.specs.Io.KnownBytes.{Consumes, IsAtEnd};
 ghost use Rattle.rf_outside.specs.Causes.{Rose};
 ghost use Rattle.chdr_stream.specs.Stream.{fed_with};
@@ -30,7 +30,8 @@ pub fn one_more(counts: Counts, canonical: bool) -> Counts
 fn drain(decoder: &mut Decoder, counts: &mut Counts) -> Option<Fault>
     requires { Bounded decoder.old counts.old }
     ensures leaves { (fed : List ℕ) →
-        Scanned (Counted counts.old) fed decoder.old → Leaves (Counted counts.new) fed decoder.new result }
+        Scanned (Counted counts.old) fed decoder.old →
+        Leaves (Counted counts.new) fed decoder.new result }
     ensures bounded { Bounded decoder.new counts.new }
 {
     loop {
@@ -72,12 +73,13 @@ pub fn ended(decoder: &Decoder, counts: Counts) -> Seen
 /// The next bytes of the source, at most so many.
 pub fn read_piece<S: Source>(
     src: &mut S,
-    piece: &mut [u8; 65536],
+    piece: &mut [u8; PIECE],
     most: usize,
 ) -> Result<usize, Stop>
     requires some { 0 < most }
-    requires room { most ≤ 65536 }
-    ensures bytes { IfOk result (λ n. Consumes (S.left src.old) (S.left src.new) (take n piece.new)) }
+    requires room { most ≤ PIECE }
+    ensures bytes { IfOk result (λ n.
+        Consumes (S.left src.old) (S.left src.new) (take n piece.new)) }
     ensures bound { IfOk result (λ n. n ≤ most) }
     ensures end { IfOk result (λ n. n ≡ 0 → IsAtEnd (S.left src.new)) }
     ensures failed { result ≡ Err Stop.Read → Rose (S.faults src.old) (S.faults src.new) }
@@ -109,8 +111,8 @@ pub fn too_long() -> Fault
 }
 
 /// Feeds the first bytes of the piece.
-pub fn feed_piece(decoder: &mut Decoder, piece: &[u8; 65536], count: usize) -> Result<(), Stop>
-    requires within { count ≤ 65536 }
+pub fn feed_piece(decoder: &mut Decoder, piece: &[u8; PIECE], count: usize) -> Result<(), Stop>
+    requires within { count ≤ PIECE }
     requires place { decoder.old.at + length decoder.old.kept ≤ limit }
     ensures ok { OnOk result (decoder.new ≡ fed_with decoder.old (take count piece.now)) }
     ensures memory { IfErr result (λ stop. stop ≡ Stop.Memory) }

@@ -12,18 +12,20 @@ use std::alloc::Global;
 
 /// Writes a line for each packet of a capture as it is read, and a last line.
 ///
-/// The status is 0, or 7 at a fault; 3 where a read failed, 4 where a write did, 5 for want of memory.
-/// Lines are kept until they come to 64 KiB, and those that are kept at a failed read aren't written.
-/// The lines are drawn in specs/Listing.antt.
+/// The status is 0, or 7 at a fault; 3 where a read failed, 4 where a write did, 5 for want of
+/// memory. Lines are kept until they come to 64 KiB; those that are kept at a failed read aren't
+/// written.
+///
+/// Rule: docs/scripts-and-reports.md, "Listing and check".
 pub fn show_capture<S: Source, K: Sink>(alloc: Global, src: &mut S, out: &mut K) -> u8
     ensures statuses { (result ≡ 0) ⊎ (result ≡ 3) ⊎ (result ≡ 4) ⊎ (result ≡ 5) ⊎ (result ≡ 7) }
-    ensures told { (result ≡ 0) ⊎ (result ≡ 7) →
-        IfSome (S.left src.old) (λ bytes. Told listed bytes result (K.written out.old) (K.written out.new)) }
+    ensures told { (result ≡ 0) ⊎ (result ≡ 7) → IfSome (S.left src.old) (λ bytes.
+        Told listed bytes result (K.written out.old) (K.written out.new)) }
     ensures ended { result ≡ 0 → IsAtEnd (S.left src.new) }
     ensures read { result ≡ 3 → Rose (S.faults src.old) (S.faults src.new) }
     ensures write { result ≡ 4 → Rose (K.faults out.old) (K.faults out.new) }
-    ensures prefix { (result ≡ 3) ⊎ (result ≡ 4) ⊎ (result ≡ 5) →
-        IfSome (S.left src.old) (λ bytes. AddsPrefix (K.written out.old) (K.written out.new) (listed bytes)) }
+    ensures prefix { (result ≡ 3) ⊎ (result ≡ 4) ⊎ (result ≡ 5) → IfSome (S.left src.old) (λ bytes.
+        AddsPrefix (K.written out.old) (K.written out.new) (listed bytes)) }
     ensures later { (S.faults src.old ≤ S.faults src.new) × (K.faults out.old ≤ K.faults out.new) }
 {
     match list_all(alloc, src, out) {

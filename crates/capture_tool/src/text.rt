@@ -1,5 +1,5 @@
 //! Lines of text, piece by piece.
-ghost use Rattle.std.specs.Prelude.{◌≡◌, ◌++◌, codes, decimal, None, OnOk, List};
+ghost use Rattle.std.specs.Prelude.{◌≡◌, ◌++◌, codes, decimal, None, OnOk};
 ghost use Rattle.capture_tool.specs.Listing.{last_line};
 ghost use Rattle.capture_tool.specs.Text.{check_text, counts_line, fault_line, why_text};
 
