@@ -13,3 +13,5 @@ operated_more site src start ops i d h = fold_more (operated site src) start ops
 
 pub asked_in_more : (ops : List MgmtOp) (i : ℕ) (d : MgmtOp) → i < length ops → asked_in (drop i ops) ≡ asked (operation_of (get_or ops i d)) + asked_in (drop (i + 1) ops)
 asked_in_more ops i d h = at_drop_more asked_in ops i d h
+
+pub ruleset hop_lemmas = (operated_more, asked_in_more)

@@ -1,13 +1,19 @@
 -- Crossbars, adapters and end nodes as sites.
-use Rattle.std.specs.Prelude.{ℕ, ◌+◌, ◌*◌, ◌<◌, ◌≤◌}
+use Rattle.std.specs.Prelude.{◌≡◌, ℕ, ◌+◌, ◌*◌, ◌<◌, ◌≤◌}
 use Rattle.net_nodes.specs.declared.end_node.EndNode.{EndNode}
 use Rattle.net_nodes.specs.declared.site.Site.{Site}
 use Rattle.net_nodes.specs.declared.switch.Switch.{Switch}
 
--- its number and its ports are in their ranges
-pub record FitsSwitch (switch : Switch) : Type 0 where
+-- a crossbar's number is below 1,024, and it has 1 to 32 ports
+pub record FitsCrossbar (switch : Switch) : Type 0 where
   pub instance : switch.instance < 1024
-  pub ports : switch.ports ≤ 32
+  pub some : 1 ≤ switch.ports
+  pub many : switch.ports ≤ 32
+
+-- an adapter's number is below 1,024, and it has two ports
+pub record FitsAdapter (switch : Switch) : Type 0 where
+  pub instance : switch.instance < 1024
+  pub two : switch.ports ≡ 2
 
 -- a crossbar or an adapter, by its kind, at which a packet came by a port
 abbrev pub switch_site : ℕ → Switch → ℕ → Site

@@ -1,13 +1,11 @@
 ghost use Rattle.std.specs.Prelude.{◌≡◌, ◌+◌, ◌≤◌, ◌<◌, ◌^◌, map, length, IfOk};
-ghost use Rattle.chdr_words.specs.NodeInfo.{FitsInfo};
 ghost use Rattle.net_nodes.specs.Operations.{asked_in};
 ghost use Rattle.net_nodes.specs.Perform.{first_hop, last_hop, performed, without_first, work_of};
 ghost use Rattle.net_nodes.specs.Switch.{crossbar_site};
 ghost use Rattle.net_nodes.specs.Table.{no_exit, exit_of, with_exit};
 
-use crate::hop::perform_hop;
-use crate::{Done, Room, Site, Switch, Table};
-use chdr_words::{Epid, EpidList, Management, NodeInfo};
+use crate::{Done, Room, Switch};
+use chdr_words::{Epid, EpidList, Management};
 use rf_base::Memory;
 use std::alloc::Global;
 use std::marker::Model;
@@ -20,13 +18,13 @@ pub struct Crossbar {
 
 impl Model for Crossbar {
     ghost use Rattle.net_nodes.specs.declared.switch.Switch.{Switch};
-    ghost use Rattle.net_nodes.specs.Switch.{FitsSwitch};
+    ghost use Rattle.net_nodes.specs.Switch.{FitsCrossbar};
 
     ghost Value = { Switch };
 
     ghost view = { λ node. node.switch };
 
-    ghost invariant = { λ node. FitsSwitch node.switch };
+    ghost invariant = { λ node. FitsCrossbar node.switch };
 }
 
 impl Crossbar {
@@ -50,15 +48,8 @@ impl Crossbar {
           table = map no_exit epids.now;
         }) }
     {
-        let table = Table::new(alloc, epids)?;
-        Ok(Crossbar {
-            switch: Switch {
-                instance,
-                ports,
-                linked,
-                table,
-            },
-        })
+        let switch = Switch::new(alloc, instance, ports, linked, epids)?;
+        Ok(Crossbar { switch })
     }
 
     /// The port by which packets to an EPID leave.
@@ -88,26 +79,6 @@ impl Crossbar {
         ensures kept { self.new ≡ record self.old { table = self.new.table } }
         ensures packet { m.new ≡ without_first m.old (last_hop m.new) }
     {
-        let site = self.site(port_in);
-        perform_hop(&site, &mut self.switch.table, m, room)
-    }
-
-    fn site(&self, port_in: u8) -> Site
-        requires { port_in < self.now.ports }
-        ensures value { result ≡ crossbar_site self.now port_in }
-        ensures fits { FitsInfo result.info }
-    {
-        let ports = self.switch.ports;
-        Site {
-            info: NodeInfo {
-                device: 1,
-                kind: 1,
-                instance: self.switch.instance,
-                extended: ports as u32 + 256 * port_in as u32,
-            },
-            ports,
-            linked: self.switch.linked,
-            arrival: port_in,
-        }
+        self.switch.perform(1, m, port_in, room)
     }
 }

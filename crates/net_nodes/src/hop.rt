@@ -78,7 +78,7 @@ fn perform_operation(
 }
 
 /// The operations of a hop of a packet from `src`, in order; `last` is the packet's last hop.
-#[tactic(auto, using(crate::proofs::HopLemmas::operated_more, crate::proofs::HopLemmas::asked_in_more))]
+#[tactic(auto, using(crate::proofs::HopLemmas::hop_lemmas))]
 fn perform_operations(
     site: &Site,
     src: Epid,

@@ -1,4 +1,15 @@
-use crate::Table;
+ghost use Rattle.std.specs.Prelude.{◌≡◌, ◌+◌, ◌≤◌, ◌<◌, ◌^◌, map, length, IfOk};
+ghost use Rattle.chdr_words.specs.NodeInfo.{FitsInfo};
+ghost use Rattle.net_nodes.specs.Operations.{asked_in};
+ghost use Rattle.net_nodes.specs.Perform.{first_hop, last_hop, performed, without_first, work_of};
+ghost use Rattle.net_nodes.specs.Switch.{switch_site};
+ghost use Rattle.net_nodes.specs.Table.{no_exit};
+
+use crate::hop::perform_hop;
+use crate::{Done, Room, Site, Table};
+use chdr_words::{EpidList, Management, NodeInfo};
+use rf_base::Memory;
+use std::alloc::Global;
 
 /// What a crossbar and an adapter are made of.
 #[derive(Debug, Drop)]
@@ -10,4 +21,69 @@ pub struct Switch {
     /// Bit p says that port p has a link.
     pub linked: u32,
     pub table: Table,
+}
+
+impl Switch {
+    /// A place for each EPID and no entries.
+    pub(crate) fn new(
+        alloc: Global,
+        instance: u16,
+        ports: u8,
+        linked: u32,
+        epids: &EpidList,
+    ) -> Result<Switch, Memory>
+        ensures { IfOk result (λ switch. switch ≡ record {
+          instance = instance;
+          ports = ports;
+          linked = linked;
+          table = map no_exit epids.now;
+        }) }
+    {
+        let table = Table::new(alloc, epids)?;
+        Ok(Switch {
+            instance,
+            ports,
+            linked,
+            table,
+        })
+    }
+
+    /// Performs the first hop of a packet that came by a port to a node of this kind.
+    pub(crate) fn perform(&mut self, kind: u8, m: &mut Management, port_in: u8, room: Room) -> Done
+        requires kind { kind < 16 }
+        requires instance { self.old.instance < 1024 }
+        requires ports { self.old.ports ≤ 32 }
+        requires port { port_in < self.old.ports }
+        requires hops { 2 ≤ length m.old.hops }
+        requires room { length (last_hop m.old) + asked_in (first_hop m.old) ≤ room }
+        ensures work { work_of self.new.table result (last_hop m.new)
+            ≡ performed (switch_site kind self.old port_in) self.old.table m.old }
+        ensures kept { self.new ≡ record self.old { table = self.new.table } }
+        ensures packet { m.new ≡ without_first m.old (last_hop m.new) }
+    {
+        let site = self.site(kind, port_in);
+        perform_hop(&site, &mut self.table, m, room)
+    }
+
+    fn site(&self, kind: u8, arrival: u8) -> Site
+        requires kind { kind < 16 }
+        requires instance { self.now.instance < 1024 }
+        requires ports { self.now.ports ≤ 32 }
+        requires port { arrival < self.now.ports }
+        ensures value { result ≡ switch_site kind self.now arrival }
+        ensures fits { FitsInfo result.info }
+    {
+        let ports = self.ports;
+        Site {
+            info: NodeInfo {
+                device: 1,
+                kind,
+                instance: self.instance,
+                extended: ports as u32 + 256 * arrival as u32,
+            },
+            ports,
+            linked: self.linked,
+            arrival,
+        }
+    }
 }

@@ -111,6 +111,7 @@ fn advertise_stores_the_port_of_arrival(rt: HostRuntime) -> Result<(), Fail> {
 #[test]
 fn an_epid_without_a_place_changes_nothing(rt: HostRuntime) -> Result<(), Fail> {
     assert_eq!(rt; at_crossbar(rt.alloc(), 7, &[op(1, 0)])?, NOTHING);
+    assert_eq!(rt; at_adapter(rt.alloc(), 7, &[op(1, 0)])?, NOTHING);
     assert_eq!(rt; at_crossbar(rt.alloc(), 9, &[write(7, 2)])?, NOTHING);
     assert_eq!(rt; at_adapter(rt.alloc(), 9, &[write(7, 1)])?, NOTHING);
     Ok(())
@@ -142,6 +143,8 @@ fn an_adapter_sends_on_by_its_other_port(rt: HostRuntime) -> Result<(), Fail> {
         let left = at_adapter(rt.alloc(), 9, &[op(2, port)])?;
         assert_eq!(rt; left, (done, None, None, None));
     }
+    let back = at_adapter(rt.alloc(), 9, &[op(3, 0)])?;
+    assert_eq!(rt; back, (Done::Return, None, None, None));
     Ok(())
 }
 
@@ -214,8 +217,25 @@ fn a_read_tells_the_entry_as_it_is_then(rt: HostRuntime) -> Result<(), Fail> {
     assert_eq!(rt; at_crossbar(rt.alloc(), 9, &[op(7, 5)])?.1, none);
     assert_eq!(rt; at_adapter(rt.alloc(), 9, &[op(7, 5)])?.1, none);
     assert_eq!(rt; at_end(rt.alloc(), 9, &[op(7, 5)])?.1, none);
+    let unlisted = at_crossbar(rt.alloc(), 9, &[op(7, 7)])?.1;
+    assert_eq!(rt; unlisted, Some(op(8, 0xffff_ffff_0007)));
     let left = at_crossbar(rt.alloc(), 9, &[write(5, 2), op(7, 5)])?;
     assert_eq!(rt; left, (Done::Dead, Some(op(8, 0x2_0005)), None, Some(2)));
+    Ok(())
+}
+
+#[test]
+fn answers_stand_in_the_order_of_their_requests(rt: HostRuntime) -> Result<(), Fail> {
+    let alloc = rt.alloc();
+    let mut node = Crossbar::new(alloc, 1, 2, 0b11, &epids(alloc)?)?;
+    let mut m = packet(alloc, 9, &[op(7, 5), op(4, 0)])?;
+    let room = reserve_answers(alloc, &m, asked_answers(&m))?;
+    let _ = node.perform(&mut m, 0, room);
+    let wanted = [op(0, 0), op(8, 0xffff_ffff_0005), op(5, 0x8011_0001)];
+    assert_eq!(rt; m.hops.len(), 1);
+    for hop in m.hops.as_slice() {
+        assert_eq!(rt; hop.as_slice(), wanted.as_slice());
+    }
     Ok(())
 }
 

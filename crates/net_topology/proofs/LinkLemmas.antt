@@ -19,6 +19,8 @@ link_after_more links k node port h =
 pub link_after_all : (links : List LinkPlan) (k node port : ℕ) → length links ≤ k → link_after (2 * k) (drop k links) node port ≡ None
 link_after_all links k node port h = at_drop_all (λ ls. link_after (2 * k) ls node port) links k h
 
+pub ruleset link_lemmas = (link_after_more, link_after_all)
+
 -- a list, then one item, then a list, each appended
 pub across : (old near over new ps qs : List ℕ) (d : ℕ) → near ≡ old ++ ps → over ≡ near ++ d ∷ [] → new ≡ over ++ qs → new ≡ old ++ (ps ++ d ∷ qs)
 across old near over new ps qs d p q r =

@@ -116,7 +116,7 @@ impl Topology {
     }
 
     /// The directed link that leaves a node by a port.
-    #[tactic(auto, using(crate::proofs::LinkLemmas::link_after_more, crate::proofs::LinkLemmas::link_after_all))]
+    #[tactic(auto, using(crate::proofs::LinkLemmas::link_lemmas))]
     pub fn link_at(&self, node: u16, port: u8) -> Option<u16>
         ensures value { result ≡ link_at self.now.links node port }
         ensures there { IfSome result (λ d. d < 2 * length self.now.links) }
