@@ -7,6 +7,7 @@ use Rattle.std.proofs.lemmas.Cmp.{nat_eq_equiv}
 use Rattle.std.proofs.lemmas.Map.Keys.{IsDistinct-push}
 use Rattle.std.proofs.lemmas.List.Elements.{All-push, All-weaker, All-contains, All-nil, Contains-push_cases}
 use Rattle.block_library.specs.declared.kind.BlockKind.{BlockKind}
+use Rattle.block_library.specs.Blocks.{FitsKind}
 use Rattle.graph_core.specs.declared.place.Side.TheVariants.{Into, Out}
 use Rattle.graph_core.specs.declared.place.PortAt.{PortAt}
 use Rattle.graph_core.specs.declared.place.PropAt.{PropAt}
@@ -15,7 +16,7 @@ use Rattle.graph_core.specs.Derivation.{Settles}
 use Rattle.graph_core.specs.Edges.{Reaches, IsAcyclic, IsJoined, port_number}
 use Rattle.graph_core.specs.Edges.Reaches.{here, along}
 use Rattle.graph_core.specs.Pairs.{Pair, IsPut}
-use Rattle.graph_core.specs.Ports.{FitsKind, ports_at, IsProperty}
+use Rattle.graph_core.specs.Ports.{ports_at, IsProperty}
 use Rattle.graph_core.specs.Refusals.{IsFree}
 use Rattle.graph_core.specs.State.{IsGraph, state}
 use Rattle.graph_core.proofs.Derived.{one_value}

@@ -1,37 +1,14 @@
 -- The ports of the kinds of blocks, and the properties of a graph in order.
-use Rattle.std.specs.Prelude.{ℕ, zero, suc, ◌+◌, ◌<◌, ◌≤◌, List, [], ◌∷◌, ◌++◌, slice_get, sum_by}
+use Rattle.std.specs.Prelude.{ℕ, zero, suc, ◌+◌, ◌<◌, List, [], ◌∷◌, ◌++◌, slice_get, sum_by}
 use Rattle.std.specs.Option.{option_map_or}
 use Rattle.block_library.specs.declared.kind.BlockKind.{BlockKind}
 use Rattle.block_library.specs.declared.kind.BlockKind.TheVariants.{Tx, Rx, Fifo, Split, Keep, Repeat, Replay, Switch, Sink}
+use Rattle.block_library.specs.Blocks.{inputs}
 use Rattle.graph_core.specs.declared.place.Side.{Side}
 use Rattle.graph_core.specs.declared.place.Side.TheVariants.{Into, Out}
 use Rattle.graph_core.specs.declared.place.Prop.TheVariants.{Rate, Item, Spp}
 use Rattle.graph_core.specs.declared.place.PortAt.{PortAt}
 use Rattle.graph_core.specs.declared.place.PropAt.{PropAt}
-
--- the number of the kind is in its range
-abbrev pub FitsKind : BlockKind → Type 0
-FitsKind Tx = Unit {0}
-FitsKind Rx = Unit {0}
-FitsKind Fifo = Unit {0}
-FitsKind Split = Unit {0}
-FitsKind (Keep n) = (1 ≤ n) × (n ≤ 1024)
-FitsKind (Repeat n) = (1 ≤ n) × (n ≤ 16)
-FitsKind (Replay n) = (1 ≤ n) × (n ≤ 16)
-FitsKind (Switch n) = n ≤ 1
-FitsKind Sink = Unit {0}
-
--- how many inputs a block of the kind has
-abbrev pub input_count : BlockKind → ℕ
-input_count Tx = 0
-input_count Rx = 1
-input_count Fifo = 1
-input_count Split = 1
-input_count (Keep n) = 1
-input_count (Repeat n) = 1
-input_count (Replay n) = 1
-input_count (Switch n) = 2
-input_count Sink = 1
 
 -- how many outputs a block of the kind has
 abbrev pub output_count : BlockKind → ℕ
@@ -47,7 +24,7 @@ output_count Sink = 0
 
 -- how many ports a block of the kind has on the side
 abbrev pub port_count : Side → BlockKind → ℕ
-port_count Into kind = input_count kind
+port_count Into kind = inputs kind
 port_count Out kind = output_count kind
 
 -- how many ports the block of that number has on the side; none where there is no such block
@@ -64,7 +41,7 @@ IsProperty kinds at = at.port < ports_at kinds at.block at.side
 
 -- how many ports the blocks have together
 abbrev pub port_total : List BlockKind → ℕ
-port_total kinds = sum_by (λ kind. input_count kind + output_count kind) kinds
+port_total kinds = sum_by (λ kind. inputs kind + output_count kind) kinds
 
 -- the properties of one port, in order
 abbrev pub port_properties : ℕ → Side → ℕ → List PropAt
@@ -81,7 +58,7 @@ side_properties block side (suc n) = side_properties block side n ++ port_proper
 
 -- the properties of a block: its inputs, then its outputs
 abbrev pub block_properties : ℕ → BlockKind → List PropAt
-block_properties block kind = side_properties block Into (input_count kind) ++ side_properties block Out (output_count kind)
+block_properties block kind = side_properties block Into (inputs kind) ++ side_properties block Out (output_count kind)
 
 -- the properties of blocks numbered from `block` on, block by block
 abbrev pub properties_from : ℕ → List BlockKind → List PropAt

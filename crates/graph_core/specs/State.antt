@@ -2,6 +2,7 @@
 use Rattle.std.specs.Prelude.{◌≡◌, ℕ, ◌≤◌, Bool, true, false, List, [], ◌∷◌, ◌++◌, length, map, Contains, All, nat_eq}
 use Rattle.std.specs.List.{IsDistinct}
 use Rattle.block_library.specs.declared.kind.BlockKind.{BlockKind}
+use Rattle.block_library.specs.Blocks.{FitsKind}
 use Rattle.graph_core.specs.declared.place.PropAt.{PropAt}
 use Rattle.graph_core.specs.declared.place.Edge.{Edge}
 use Rattle.graph_core.specs.Derivation.{Diagram, Settles}
@@ -9,7 +10,7 @@ use Rattle.graph_core.specs.Edges.{IsAcyclic, IsBadPort, IsJoined, port_number}
 use Rattle.graph_core.specs.Refusals.{IsRefusedTaken, IsRefusedCycle}
 use Rattle.graph_core.specs.declared.place.PortAt.{PortAt}
 use Rattle.graph_core.specs.Pairs.{Pair, IsPut}
-use Rattle.graph_core.specs.Ports.{FitsKind, IsProperty, ports_at}
+use Rattle.graph_core.specs.Ports.{IsProperty, ports_at}
 
 -- a graph: what its rules speak of, the values of the last commit, and whether it is committed
 pub record State : Type 0 where

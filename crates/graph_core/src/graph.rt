@@ -1,7 +1,7 @@
 ghost use Rattle.std.specs.Prelude.{◌≡◌, ◌<◌, ◌↔◌, [], true, false, Err, IsTrue, IfOk, OnOk, OnErr, IfSome, IfNone, Contains, length};
+ghost use Rattle.block_library.specs.Blocks.{FitsKind};
 ghost use Rattle.graph_core.specs.Derivation.{Settles};
 ghost use Rattle.graph_core.specs.Pairs.{Lacks};
-ghost use Rattle.graph_core.specs.Ports.{FitsKind};
 ghost use Rattle.graph_core.specs.State.{HasBadPort, HasCycle, HasNoPort, HasTakenPort, IsGraph, IsSet};
 ghost use Rattle.graph_core.specs.State.{state, with_edge, with_kind, with_values};
 

@@ -1,12 +1,13 @@
 ghost use Rattle.std.specs.Prelude.{◌≡◌, ◌<◌, ◌↔◌, IsTrue};
-ghost use Rattle.graph_core.specs.Ports.{input_count, output_count, port_count, ports_at, IsPort};
+ghost use Rattle.block_library.specs.Blocks.{inputs};
+ghost use Rattle.graph_core.specs.Ports.{output_count, port_count, ports_at, IsPort};
 
 use crate::{PortAt, Side};
 use block_library::BlockKind;
 
 /// How many inputs a block of the kind has.
 fn input_count(kind: BlockKind) -> u16
-    ensures { result ≡ input_count kind }
+    ensures { result ≡ inputs kind }
 {
     match kind {
         BlockKind::Tx => 0,

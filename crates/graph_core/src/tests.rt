@@ -1,4 +1,4 @@
-ghost use Rattle.graph_core.specs.Ports.{FitsKind};
+ghost use Rattle.block_library.specs.Blocks.{FitsKind};
 
 use crate::{ConnectFault, Graph, PortAt, Prop, PropAt, SetFault, Side, Values};
 use block_library::BlockKind;

@@ -1,6 +1,6 @@
 ghost use Rattle.std.specs.Prelude.{◌≡◌, ◌≤◌, ℕ};
+ghost use Rattle.block_library.specs.Blocks.{FitsKind};
 ghost use Rattle.graph_core.specs.Derivation.{across, carried, product, quotient, rate_across};
-ghost use Rattle.graph_core.specs.Ports.{FitsKind};
 
 use block_library::BlockKind;
 use graph_core::{Edge, Prop, PropAt, Side};

@@ -1,6 +1,6 @@
 ghost use Rattle.std.specs.Prelude.{◌≡◌, ◌+◌, ◌≤◌, Contains, OnOk, IfErr, slice_get, Some};
+ghost use Rattle.block_library.specs.Blocks.{FitsKind};
 ghost use Rattle.graph_core.specs.Derivation.{IsDerivation, IsSpread};
-ghost use Rattle.graph_core.specs.Ports.{FitsKind};
 ghost use Rattle.property_resolver.specs.Causes.{IsCause};
 ghost use Rattle.property_resolver.specs.Spreads.{AllEdgesSpread, Grows, SideSpread};
 ghost use Rattle.property_resolver.specs.Work.{edge_work};

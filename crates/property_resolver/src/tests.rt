@@ -1,5 +1,5 @@
 ghost use Rattle.std.specs.Prelude.{◌≡◌, ◌<◌, IsTrue};
-ghost use Rattle.graph_core.specs.Ports.{FitsKind};
+ghost use Rattle.block_library.specs.Blocks.{FitsKind};
 
 mod plain;
 
