@@ -1,32 +1,29 @@
-ghost use Rattle.std.specs.Prelude.{◌≤◌, length};
+ghost use Rattle.std.specs.Prelude.{◌≡◌, ◌≤◌, length};
 ghost use Rattle.graph_core.specs.Ports.{block_properties, port_properties, properties, side_properties};
 ghost use Rattle.property_resolver.specs.Missing.{Finds};
 
 use block_library::BlockKind;
 use graph_core::{Prop, PropAt, Side, Values, port_count};
 
+/// The property of that name at the port.
+fn property(block: u16, side: Side, port: u16, prop: Prop) -> PropAt
+    ensures { result ≡ record { block = block; side = side; port = port; prop = prop } }
+{
+    PropAt {
+        block,
+        side,
+        port,
+        prop,
+    }
+}
+
 /// The first property of the port that has no value.
 fn missing_at(values: &Values, block: u16, side: Side, port: u16) -> Option<PropAt>
     ensures { Finds values.now (port_properties block side port) result }
 {
-    let rate = PropAt {
-        block,
-        side,
-        port,
-        prop: Prop::Rate,
-    };
-    let item = PropAt {
-        block,
-        side,
-        port,
-        prop: Prop::Item,
-    };
-    let spp = PropAt {
-        block,
-        side,
-        port,
-        prop: Prop::Spp,
-    };
+    let rate = property(block, side, port, Prop::Rate);
+    let item = property(block, side, port, Prop::Item);
+    let spp = property(block, side, port, Prop::Spp);
     if values.get(rate).is_none() {
         return Some(rate);
     }
