@@ -1,5 +1,4 @@
-ghost use Rattle.std.specs.Prelude.{◌≡◌, ℕ, ◌+◌, ◌<◌, ◌≤◌, ◌^◌, ◌↔◌, ◌++◌, [], drop, vec_len, length, Ok, None, Some, IsOk, IsSome, OnOk, OnErr, IfOk, IsErr};
-ghost use Rattle.chdr_packets.specs.Reading.{packet_read};
+ghost use Rattle.std.specs.Prelude.{◌≡◌, ◌+◌, ◌<◌, ◌≤◌, ◌^◌, [], drop, vec_len, length, Ok, None, IsOk, IsSome, OnOk, OnErr};
 ghost use Rattle.chdr_stream.specs.Stream.{Answers, after, fed_with, finish_at, passing_at, past, reading, stopped};
 
 use crate::placed::{FinishFault, Passed, Placed, StreamFault};
@@ -10,7 +9,8 @@ use std::marker::Model;
 
 /// Takes bytes in pieces and gives packets.
 ///
-/// It keeps one vector and a place in it: what is passed is let go at the next `feed`.
+/// It keeps one vector and a place in it: what is passed is let go at the next `feed`, except at a
+/// fault, where that changes nothing. The bytes fed in all are below 2^64.
 /// Rule: docs/wire-format.md, "Captures".
 #[derive(Debug, Drop)]
 pub struct Decoder {
@@ -21,14 +21,15 @@ pub struct Decoder {
 }
 
 impl Model for Decoder {
-    ghost use Rattle.std.specs.Prelude.{◌≤◌, drop, vec_len};
+    ghost use Rattle.std.specs.Prelude.{◌+◌, ◌-◌, ◌<◌, ◌≤◌, ◌^◌, drop, vec_len};
     ghost use Rattle.chdr_stream.specs.Stream.{Stream};
 
     ghost Value = { Stream };
 
     ghost view = { λ d. record { at = d.at; kept = drop d.start d.bytes.items; fault = d.fault } };
 
-    ghost invariant = { λ d. d.start ≤ vec_len d.bytes };
+    ghost invariant = { λ d. (d.start ≤ vec_len d.bytes)
+        × (d.at + (vec_len d.bytes - d.start) < 2 ^ 64) };
 }
 
 /// Moves the bytes behind the first ones to the front, in the memory that they have.
@@ -58,7 +59,7 @@ impl Decoder {
 
     /// Appends the piece; at a fault it changes nothing and is `Ok`.
     ///
-    /// It costs what the bytes kept and the piece cost, and memory only where both don't fit into what it has.
+    /// It moves the bytes kept to the front of its vector, and puts the piece behind them.
     pub fn feed(&mut self, piece: &[u8]) -> Result<(), Memory>
         requires { self.old.at + length self.old.kept + length piece.now < 2 ^ 64 }
         ensures ok { OnOk result (self.new ≡ fed_with self.old piece.now) }
@@ -76,8 +77,7 @@ impl Decoder {
 
     /// Goes past a packet, and tells its place.
     fn move_on(&mut self, size: usize) -> u64
-        requires within { size ≤ length self.old.kept }
-        requires below { self.old.at + length self.old.kept < 2 ^ 64 }
+        requires { size ≤ length self.old.kept }
         ensures place { result ≡ self.old.at }
         ensures moves { self.new ≡ past self.old size }
     {
@@ -96,9 +96,10 @@ impl Decoder {
         StreamFault::Bad { at: self.at, fault }
     }
 
-    /// The next packet; `None` where its bytes aren't all there, and again the same fault where it has one.
+    /// The next packet; `None` where its bytes aren't all there.
+    ///
+    /// At a fault it answers the same one again.
     pub fn next(&mut self) -> Result<Option<Placed>, StreamFault>
-        requires { self.old.at + length self.old.kept < 2 ^ 64 }
         ensures answers { Answers self.old self.new result }
         ensures fed { self.new.at + length self.new.kept ≡ self.old.at + length self.old.kept }
         ensures few { result ≡ Ok None → length self.new.kept < 65536 }
@@ -123,9 +124,10 @@ impl Decoder {
         }
     }
 
-    /// As `next`, and tells only the packet's place and whether it is canonical; it takes no memory.
+    /// As `next`, and tells only the packet's place and whether it is canonical.
+    ///
+    /// It takes no memory.
     pub fn pass(&mut self) -> Result<Option<Passed>, StreamFault>
-        requires { self.old.at + length self.old.kept < 2 ^ 64 }
         ensures answers { result ≡ passing_at self.old (reading self.old) }
         ensures moves { self.new ≡ after self.old (reading self.old) }
         ensures fed { self.new.at + length self.new.kept ≡ self.old.at + length self.old.kept }

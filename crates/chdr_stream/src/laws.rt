@@ -1,4 +1,6 @@
-//! What holds of captures and of every list of calls; each law is a function that does nothing and promises it.
+//! What holds of captures and of every list of calls.
+//!
+//! Each law is a function that does nothing and promises it.
 //!
 //! Rule: docs/wire-format.md, "Captures".
 ghost use Rattle.chdr_stream.specs.Laws.{EndsWhole, HasNone, HasOne, IsACall, IsAnyCut, IsSameCut, IsWholeOrFaulty, KeepsRest, NamesCut, NamesFault, PassTells, ShowsCaptures, ShowsFirstFault, ShowsLongest, ShowsOnly, ShowsPlaces, StaysAtFault};
@@ -9,7 +11,7 @@ pub fn captures_show_no_fault()
     ensures only { ShowsOnly }
 {}
 
-/// The fault shown stands behind the longest front that is a capture, and has the reason found there.
+/// The fault shown stands behind the longest front that is a capture, with the reason found there.
 pub fn the_fault_is_the_first()
     ensures exact { ShowsFirstFault }
     ensures longest { ShowsLongest }

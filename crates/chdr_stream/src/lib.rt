@@ -1,4 +1,6 @@
-//! Packets from pieces of a byte stream, the same however it was cut, and the first fault where it has one.
+//! Packets from pieces of a byte stream, the same however it was cut.
+//!
+//! A stream that has a fault gives the packets before its first one, and then that fault.
 //!
 //! What holds of captures and of every list of calls stands in laws.rt.
 #![tactic(auto)]

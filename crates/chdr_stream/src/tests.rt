@@ -1,4 +1,4 @@
-ghost use Rattle.std.specs.Prelude.{◌≡◌, ◌+◌, ◌<◌, ◌^◌, length};
+ghost use Rattle.std.specs.Prelude.{◌≡◌, ◌+◌, length};
 
 use crate::{Decoder, FinishFault, Passed, StreamFault};
 use chdr_packets::{Body, PacketFault};
@@ -24,7 +24,6 @@ const BAD_AT_16: StreamFault = StreamFault::Bad {
 
 /// Asks for a packet, and notes its place and mark.
 fn ask(decoder: &mut Decoder, seen: &mut Vec<Passed>) -> Result<(), Fail>
-    requires { decoder.old.at + length decoder.old.kept < 2 ^ 64 }
     ensures { decoder.new.at + length decoder.new.kept ≡ decoder.old.at + length decoder.old.kept }
 {
     match decoder.next()? {
