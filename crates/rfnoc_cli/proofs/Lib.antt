@@ -5,5 +5,4 @@ pub mod MoveLemmas
 pub mod NextLemmas
 pub mod UnderWay
 pub mod StraightLemmas
-pub mod InputLemmas
 pub mod OutcomeLemmas

@@ -17,7 +17,7 @@ use Rattle.block_library.specs.declared.plan.TxPlan.{TxPlan}
 use Rattle.rfnoc_cli.specs.declared.book.Book.{Book}
 use Rattle.rfnoc_cli.specs.declared.book.RunBook.{RunBook}
 use Rattle.rfnoc_cli.specs.declared.straight.Straight.{Straight}
-use Rattle.rfnoc_cli.specs.Run.{IsRunOf, IsOne, IsFresh, given_of, waiting_of}
+use Rattle.rfnoc_cli.specs.Run.{IsRunOf, IsFresh, given_of, waiting_of}
 use Rattle.rfnoc_cli.specs.TopCall.{plan_of, IsStraightRun, books_before}
 
 -- the front of a legal journal is legal
@@ -45,11 +45,7 @@ straight_run s run told =
       drained = told.ends ∙ ap (λ (end : StreamEnd). end ∷ []) (drained_end last rests);
     }
 
--- a net that stands for the start of a plan is one stream over one link
-pub one_start : (net : NetValue) (plan : TxPlan) → Stands net (start plan) → IsOne net.present
-unfolding start
-one_start net plan stands = record { stream = stands.now.as_many; link = ap length stands.now.queues }
-
+-- a net that stands for the start of a plan is fresh
 pub fresh_start : (net : NetValue) (plan : TxPlan) → Stands net (start plan) → net.journal ≡ [] → IsFresh net
 unfolding start
 fresh_start net plan stands journal =
