@@ -1,16 +1,16 @@
 -- The first event that may happen, in the present and in the machine.
-use Rattle.std.proofs.Common.{◌≡◌, ℕ, List, [], ◌∷◌, ◌++◌, length, map, Bool, true, false, cond, refl, sym, ◌∙◌, ap}
-use Rattle.std.specs.Prelude.{Option, None, Some}
+use Rattle.std.proofs.Common.{◌≡◌, ℕ, List, [], ◌∷◌, length, Bool, refl, sym, ◌∙◌, ap}
+use Rattle.std.specs.Prelude.{Option}
 use Rattle.std.specs.List.{find}
 use Rattle.std.specs.Option.{option_or}
 use Rattle.std.proofs.lemmas.List.{length-map}
 use Rattle.std.proofs.lemmas.List.Folds.{find-append}
 use Rattle.chdr_packets.specs.declared.packet.Packet.{Packet}
 use Rattle.fabric_core.specs.Machine.{State, enabled}
-use Rattle.fabric_core.specs.Present.{Present, IsNow, may}
+use Rattle.fabric_core.specs.Present.{may}
 use Rattle.fabric_core.specs.Runs.{chosen, candidates, enters_of, hops_of}
 use Rattle.fabric_core.specs.NetValue.{NetValue, Stands, Tracked, chosen_now}
-use Rattle.fabric_core.specs.NetView.{present_of, stands_of}
+use Rattle.fabric_core.specs.NetView.{present_of}
 use Rattle.fabric_core.specs.declared.event.Event.{Event}
 use Rattle.fabric_core.proofs.PresentLaws.{may-enabled}
 

@@ -1,6 +1,6 @@
 -- The first of a row of candidates that passes a test.
-use Rattle.std.proofs.Common.{◌≡◌, ℕ, ◌+◌, ◌≤◌, ◌<◌, ◌⊎◌, List, [], ◌∷◌, ◌++◌, Bool, true, false, cond, map, refl, sym, ◌∙◌, ap, subst, arith, zero, suc, inl, inr}
-use Rattle.std.specs.Prelude.{Option, None, Some}
+use Rattle.std.proofs.Common.{◌≡◌, ℕ, ◌+◌, ◌≤◌, ◌<◌, ◌⊎◌, List, [], ◌∷◌, Bool, true, false, cond, map, refl, sym, ap, subst, arith, zero, suc, inl, inr}
+use Rattle.std.specs.Prelude.{None, Some}
 use Rattle.std.specs.List.{find, range_with_len}
 use Rattle.std.proofs.Math.Nat.{eq-or-lt_of_le}
 

@@ -1,14 +1,12 @@
 -- What each event keeps of a lawful state.
-use Rattle.std.proofs.Common.{◌≡◌, ℕ, ◌+◌, ◌-◌, ◌≤◌, ◌<◌, List, [], ◌∷◌, ◌++◌, length, take, drop, Bool, true, false, IsTrue, refl, sym, ◌∙◌, ap, subst, arith, get_or, set, append_assoc, append-nil, zero, suc}
+use Rattle.std.proofs.Common.{◌≡◌, ℕ, ◌+◌, ◌≤◌, List, [], ◌∷◌, ◌++◌, length, IsTrue, refl, sym, ◌∙◌, ap, arith, get_or, set, append_assoc, zero, suc}
 use Rattle.std.proofs.lemmas.Bool.Decides.{nat_tests}
 use Rattle.std.proofs.lemmas.List.{length-append, length-set}
 use Rattle.chdr_packets.specs.declared.packet.Packet.{Packet}
 use Rattle.block_library.specs.declared.plan.TxPlan.{TxPlan}
-use Rattle.block_library.specs.Producer.{produced}
-use Rattle.fabric_core.specs.Machine.{Stream, State, stream_at, queue_at, enabled, after, idle, can_enter, can_see, has_packet, enters, hops, numbered, sends, gets, sees}
+use Rattle.fabric_core.specs.Machine.{Stream, State, stream_at, queue_at, enabled, after, idle, can_see, enters, hops, numbered, sends, gets, sees}
 use Rattle.fabric_core.specs.Runs.{start}
 use Rattle.fabric_core.specs.Laws.{IsLawful, IsLawfulAt, StaysLawful, StartsLawful, numbered_from, plain}
-use Rattle.fabric_core.specs.declared.event.Event.{Event}
 use Rattle.fabric_core.specs.declared.event.Event.TheVariants.{Enter, Hop, Seen}
 use Rattle.fabric_core.proofs.PlaceLemmas.{at-set, one-set}
 

@@ -1,10 +1,10 @@
 -- Whether an event may happen, by what stands at its place.
-use Rattle.std.proofs.Common.{◌≡◌, ℕ, ◌<◌, ◌⊎◌, inl, inr, List, [], ◌∷◌, length, Bool, true, false, ◌&&◌, nat_lt, nat_le, refl, sym, ◌∙◌, ap, arith, get_or}
+use Rattle.std.proofs.Common.{◌≡◌, ℕ, ◌⊎◌, inl, inr, List, [], ◌∷◌, length, Bool, true, ◌&&◌, nat_lt, nat_le, refl, sym, ◌∙◌, ap, arith}
 use Rattle.std.proofs.Math.ListN.{get_or-map}
 use Rattle.std.proofs.lemmas.Bool.Decides.{nat_tests}
 use Rattle.chdr_packets.specs.declared.packet.Packet.{Packet}
 use Rattle.fabric_core.specs.Machine.{State, can_see, has_packet, queue_at, enabled}
-use Rattle.fabric_core.specs.Present.{Stand, may, stand_at, vacant, handed_of}
+use Rattle.fabric_core.specs.Present.{Stand, may, stand_at, handed_of}
 use Rattle.fabric_core.specs.NetValue.{NetValue, Stands, Tracked, doable}
 use Rattle.fabric_core.specs.NetView.{present_of, stands_of, tracked_at, untracked}
 use Rattle.fabric_core.specs.declared.event.Event.{Event}

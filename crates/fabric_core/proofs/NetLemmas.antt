@@ -1,10 +1,10 @@
 -- A net after an event.
-use Rattle.std.proofs.Common.{◌≡◌, ℕ, ◌+◌, ◌≤◌, ◌<◌, List, [], ◌∷◌, ◌++◌, length, Bool, true, ◌&&◌, IsTrue, refl, sym, ◌∙◌, ap, subst, arith, get_or, set, drop, ◌⊎◌, inl, inr}
+use Rattle.std.proofs.Common.{◌≡◌, ℕ, ◌+◌, ◌≤◌, ◌<◌, List, [], ◌∷◌, ◌++◌, length, IsTrue, refl, sym, ◌∙◌, ap, subst, arith, set, drop, ◌⊎◌, inl, inr}
 use Rattle.std.proofs.Math.ListN.{drop_of_length-le}
 use Rattle.std.proofs.lemmas.Bool.{cases_lt}
 use Rattle.std.proofs.lemmas.List.{length-append, length-set, drop-drop}
 use Rattle.chdr_packets.specs.declared.packet.Packet.{Packet}
-use Rattle.fabric_core.specs.Machine.{State, Stream, has_packet, queue_at, numbered, after, enabled, idle}
+use Rattle.fabric_core.specs.Machine.{State, Stream, queue_at, after, enabled, idle}
 use Rattle.fabric_core.specs.Present.{Stand, Present, IsNow, IsKept, may, goes_on, stand_at, stand_gets, stand_sees, stand_sends, enters_now, hops_now, vacant, hands, handed_on, stand_of}
 use Rattle.fabric_core.specs.NetValue.{NetValue, Stands, Tracked, doable}
 use Rattle.fabric_core.specs.NetView.{IsCounted, present_of, stands_of, tracked_at}

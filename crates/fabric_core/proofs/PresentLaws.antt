@@ -1,6 +1,6 @@
 -- The present goes on as the machine does.
-use Rattle.std.proofs.Common.{◌≡◌, ℕ, ◌+◌, ◌-◌, ◌≤◌, ◌<◌, List, [], ◌∷◌, ◌++◌, length, take, drop, map, Bool, true, IsTrue, refl, subst, sym, ◌∙◌, ap, arith, get_or, set}
-use Rattle.fabric_core.specs.Machine.{Stream, State, stream_at, queue_at, enabled, after, idle, can_enter, can_see, has_packet, enters, hops}
+use Rattle.std.proofs.Common.{ℕ, ◌≤◌, List, [], ◌∷◌, IsTrue, refl, subst, sym, ◌∙◌, ap, arith, set}
+use Rattle.fabric_core.specs.Machine.{State, stream_at, queue_at, enabled, after, idle, can_enter, can_see, has_packet, enters, hops}
 use Rattle.fabric_core.specs.Present.{Present, Stand, IsNow, IsKept, may, goes_on, stand_at, vacant, enters_now, hops_now}
 use Rattle.fabric_core.specs.Laws.{PresentTells, PresentFollows, IsLawful}
 use Rattle.chdr_packets.specs.declared.packet.Packet.{Packet}
@@ -8,7 +8,6 @@ use Rattle.std.proofs.lemmas.List.{length-set}
 use Rattle.std.proofs.lemmas.Bool.Decides.{nat_tests}
 use Rattle.fabric_core.proofs.PlaceLemmas.{both-set}
 use Rattle.fabric_core.proofs.StandLaws.{kept-sends, kept-gets, kept-sees}
-use Rattle.fabric_core.specs.declared.event.Event.{Event}
 use Rattle.fabric_core.specs.declared.event.Event.TheVariants.{Enter, Hop, Seen}
 
 pub may-enabled : PresentTells

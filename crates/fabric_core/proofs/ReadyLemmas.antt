@@ -1,6 +1,5 @@
 -- What a producer still has, by how much it has sent.
-use Rattle.std.proofs.Common.{◌≡◌, ℕ, ◌+◌, ◌-◌, ◌*◌, ◌≤◌, ◌<◌, ◌⊎◌, List, [], ◌∷◌, length, drop, max, Bool, true, false, IsTrue, nat_lt, refl, sym, ◌∙◌, ap, subst, arith, inl, inr, get_or, suc}
-use Rattle.std.specs.Prelude.{Option, None, Some}
+use Rattle.std.proofs.Common.{◌≡◌, ℕ, ◌+◌, ◌-◌, ◌≤◌, ◌<◌, ◌⊎◌, List, [], ◌∷◌, length, drop, max, true, false, IsTrue, nat_lt, refl, sym, ◌∙◌, ap, subst, arith, inl, inr, suc}
 use Rattle.std.proofs.Math.Seq.{drop-cons}
 use Rattle.std.proofs.Math.ListN.{drop_of_length-le}
 use Rattle.std.proofs.lemmas.List.{drop-drop}
@@ -9,8 +8,7 @@ use Rattle.std.proofs.lemmas.Bool.Decides.{nat_tests}
 use Rattle.chdr_packets.specs.declared.packet.Packet.{Packet}
 use Rattle.chdr_packets.specs.Length.{wire_of}
 use Rattle.block_library.specs.declared.plan.TxPlan.{TxPlan}
-use Rattle.block_library.specs.Producer.{produced, packet_of, FitsPlan, time_of}
-use Rattle.block_library.specs.Samples.{samples_from, sample}
+use Rattle.block_library.specs.Producer.{produced, packet_of}
 use Rattle.block_library.proofs.ProducerLemmas.{length-produced, get_or-produced}
 use Rattle.fabric_core.specs.Machine.{has_packet, numbered}
 use Rattle.fabric_core.specs.NetValue.{EntersNext, stand_after_sending}

@@ -1,5 +1,5 @@
 -- What holds of whole runs.
-use Rattle.std.proofs.Common.{◌≡◌, ℕ, ◌+◌, ◌-◌, ◌≤◌, ◌<◌, ◌⊎◌, List, [], ◌∷◌, ◌++◌, length, take, map, map-id, Bool, true, false, IsTrue, refl, sym, ◌∙◌, ap, subst, arith, append-nil, inl, inr}
+use Rattle.std.proofs.Common.{◌≡◌, ℕ, ◌≤◌, ◌<◌, ◌⊎◌, List, [], ◌∷◌, ◌++◌, length, take, map, map-id, true, false, refl, sym, ◌∙◌, ap, subst, arith, append-nil, inl, inr}
 use Rattle.std.specs.Prelude.{Option, None, Some}
 use Rattle.std.specs.Prelude.{nat_lt}
 use Rattle.std.specs.List.{find, range_with_len}
@@ -10,10 +10,9 @@ use Rattle.std.proofs.lemmas.Bool.{cases_lt}
 use Rattle.std.proofs.lemmas.Bool.Decides.{nat_tests}
 use Rattle.std.proofs.lemmas.List.Folds.{find-append}
 use Rattle.chdr_packets.specs.declared.packet.Packet.{Packet}
-use Rattle.block_library.specs.declared.plan.TxPlan.{TxPlan}
-use Rattle.fabric_core.specs.Machine.{Stream, State, stream_at, queue_at, enabled, after, idle, can_enter, can_see, has_packet, link_room}
-use Rattle.fabric_core.specs.Runs.{IsLegal, IsWhole, IsAtRest, IsChosen, IsDrained, after_all, start, chosen, next_of, first_of, has_unseen, sees_all, candidates}
-use Rattle.fabric_core.specs.Laws.{IsLawful, IsLawfulAt, OrderHolds, KeepsOrder, RestIsDrained, DrainedIsAll, ChosenIsWhole, plain, numbered_from}
+use Rattle.fabric_core.specs.Machine.{Stream, State, stream_at, queue_at, enabled, after, idle, can_enter, can_see, has_packet}
+use Rattle.fabric_core.specs.Runs.{IsLegal, IsAtRest, IsChosen, after_all, chosen, next_of, first_of, has_unseen, sees_all, candidates}
+use Rattle.fabric_core.specs.Laws.{IsLawful, OrderHolds, KeepsOrder, RestIsDrained, DrainedIsAll, ChosenIsWhole, numbered_from}
 use Rattle.fabric_core.specs.declared.event.Event.{Event}
 use Rattle.fabric_core.specs.declared.event.Event.TheVariants.{Enter, Hop, Seen}
 use Rattle.fabric_core.proofs.Finds.{find-passes, find-misses}

@@ -1,12 +1,11 @@
 -- What is kept of a stream follows the stream, event by event.
-use Rattle.std.proofs.Common.{◌≡◌, ℕ, ◌+◌, ◌-◌, ◌≤◌, ◌<◌, List, [], ◌∷◌, ◌++◌, length, take, drop, map, max, refl, sym, ◌∙◌, ap, arith, sum_by, sum}
-use Rattle.std.proofs.lemmas.Grind.{common_steps}
+use Rattle.std.proofs.Common.{◌≡◌, ℕ, ◌+◌, ◌-◌, ◌≤◌, List, [], ◌∷◌, ◌++◌, length, take, drop, map, refl, sym, ◌∙◌, ap, arith, sum}
 use Rattle.std.proofs.lemmas.List.{length-append, take-append-le, drop-append-le, map-append, drop-map, take-map, drop-drop}
-use Rattle.std.proofs.lemmas.List.Sums.{sum_by-append, sum_by-take-le, sum-map, sum_by-take-drop}
+use Rattle.std.proofs.lemmas.List.Sums.{sum_by-append, sum_by-take-le, sum-map}
 use Rattle.std.proofs.Math.Seq.{take-add}
 use Rattle.chdr_packets.specs.declared.packet.Packet.{Packet}
 use Rattle.chdr_packets.specs.Length.{wire_of}
-use Rattle.fabric_core.specs.Machine.{Stream, bytes_of, outstanding_bytes, numbered, sends, gets, sees}
+use Rattle.fabric_core.specs.Machine.{Stream, bytes_of, numbered, sends, gets, sees}
 use Rattle.fabric_core.specs.Present.{Stand, IsKept, stand_of, stand_sends, stand_gets, stand_sees}
 use Rattle.fabric_core.specs.Laws.{IsLawfulAt}
 

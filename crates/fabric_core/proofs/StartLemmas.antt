@@ -1,11 +1,11 @@
 -- A net of one stream as it starts.
-use Rattle.std.proofs.Common.{◌≡◌, ℕ, ◌+◌, ◌≤◌, List, [], ◌∷◌, length, refl, sym, ◌∙◌, ap, subst, arith, zero, suc}
+use Rattle.std.proofs.Common.{◌≡◌, ℕ, List, [], ◌∷◌, refl, ◌∙◌, arith, zero, suc}
 use Rattle.chdr_packets.specs.declared.packet.Packet.{Packet}
 use Rattle.block_library.specs.declared.plan.TxPlan.{TxPlan}
 use Rattle.block_library.specs.Producer.{produced, FitsPlan}
 use Rattle.block_library.proofs.ProducerLemmas.{length-produced}
-use Rattle.fabric_core.specs.Machine.{State, queue_at, stream_at, idle}
-use Rattle.fabric_core.specs.Present.{Stand, Present, IsNow, IsKept, stand_at, vacant}
+use Rattle.fabric_core.specs.Machine.{queue_at, stream_at}
+use Rattle.fabric_core.specs.Present.{Stand, IsKept, stand_at}
 use Rattle.fabric_core.specs.NetValue.{NetValue, Stands, Tracked}
 use Rattle.fabric_core.specs.NetView.{IsCounted, present_of, stands_of, made_of}
 use Rattle.fabric_core.specs.Laws.{plain}

@@ -1,18 +1,18 @@
 -- What an event asks and does, by what stands at its place.
-use Rattle.std.proofs.Common.{◌≡◌, ◌≢◌, ℕ, ◌+◌, ◌-◌, ◌^◌, ◌<◌, ◌≤◌, ◌⊎◌, List, [], ◌∷◌, ◌++◌, length, Bool, true, false, ◌&&◌, IsTrue, nat_lt, nat_le, refl, sym, ◌∙◌, ap, subst, arith, inl, inr, get_or, set}
+use Rattle.std.proofs.Common.{◌≡◌, ℕ, ◌-◌, ◌^◌, ◌<◌, ◌≤◌, ◌⊎◌, List, [], ◌∷◌, ◌++◌, length, Bool, true, false, ◌&&◌, IsTrue, nat_lt, refl, sym, ◌∙◌, ap, subst, arith, inl, inr, set}
 use Rattle.std.specs.Prelude.{Option, None, Some, Result, Ok, Err, IfOk, MatchOption}
 use Rattle.std.proofs.Math.ListN.{get_or-eq_default}
 use Rattle.std.proofs.lemmas.Bool.{cases_lt}
 use Rattle.std.proofs.lemmas.Bool.Decides.{nat_tests}
 use Rattle.chdr_packets.specs.declared.packet.Packet.{Packet}
 use Rattle.fabric_core.specs.Machine.{can_see, has_packet, queue_at, numbered}
-use Rattle.fabric_core.specs.Present.{Stand, Present, may, goes_on, stand_at, stand_gets, stand_sees, stand_sends, enters_now, hops_now, vacant}
+use Rattle.fabric_core.specs.Present.{Stand, Present, may, goes_on, stand_at, stand_gets, stand_sees, stand_sends, enters_now, hops_now}
 use Rattle.fabric_core.specs.NetValue.{Tracked, EntersNext, stand_after_sending}
 use Rattle.fabric_core.specs.NetView.{HasNeeds, IsCounted, present_of, stands_of, tracked_at, untracked}
 use Rattle.fabric_core.specs.declared.queue.Entry.{Entry}
 use Rattle.fabric_core.specs.declared.event.Event.{Event}
 use Rattle.fabric_core.specs.declared.event.Event.TheVariants.{Enter, Hop, Seen}
-use Rattle.fabric_core.proofs.MayLemmas.{stand-tracked, may-enter, may-hop, may-seen}
+use Rattle.fabric_core.proofs.MayLemmas.{stand-tracked, may-enter, may-seen}
 
 pub both : (a b : Bool) → IsTrue (a && b) → IsTrue a × IsTrue b
 both true true h = (refl, refl)

@@ -1,8 +1,7 @@
 -- Streams at their places, after one of them changed.
-use Rattle.std.proofs.Common.{◌≡◌, ℕ, ◌<◌, List, length, map, sym, ◌∙◌, ap, get_or, set}
+use Rattle.std.proofs.Common.{◌≡◌, ℕ, ◌<◌, List, length, ◌∙◌, ap, get_or, set}
 use Rattle.std.proofs.Math.Seq.{map-set_same}
 use Rattle.std.proofs.lemmas.List.{map-set, get_or_default}
-use Rattle.chdr_packets.specs.declared.packet.Packet.{Packet}
 use Rattle.fabric_core.specs.Present.{Stand}
 use Rattle.fabric_core.specs.NetValue.{Tracked}
 use Rattle.fabric_core.specs.NetView.{made_of, stands_of, tracked_at, untracked}

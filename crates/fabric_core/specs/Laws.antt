@@ -1,9 +1,9 @@
 -- What holds in every run of the machine.
-use Rattle.std.specs.Prelude.{◌≡◌, ℕ, ◌+◌, ◌≤◌, Bool, List, [], ◌∷◌, ◌++◌, length, take, IsTrue, slice_index_or}
+use Rattle.std.specs.Prelude.{◌≡◌, ℕ, ◌+◌, ◌≤◌, List, [], ◌∷◌, ◌++◌, length, take, IsTrue, slice_index_or}
 use Rattle.chdr_packets.specs.declared.packet.Packet.{Packet}
 use Rattle.block_library.specs.declared.plan.TxPlan.{TxPlan}
 use Rattle.block_library.specs.Producer.{produced}
-use Rattle.fabric_core.specs.Machine.{Stream, State, stream_at, queue_at, enabled, after, numbered, outstanding_bytes, outstanding_packets}
+use Rattle.fabric_core.specs.Machine.{Stream, State, stream_at, queue_at, enabled, after, numbered}
 use Rattle.fabric_core.specs.Present.{Present, IsNow, may, goes_on}
 use Rattle.fabric_core.specs.Runs.{IsLegal, IsWhole, IsAtRest, IsChosen, IsDrained, after_all, start}
 use Rattle.fabric_core.specs.declared.event.Event.{Event}

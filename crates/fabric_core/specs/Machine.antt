@@ -1,6 +1,6 @@
 -- The machine: what is ready, on links, given and taken, in whole lists that only grow, and each event's
 -- condition and effect. A stream's link has the stream's number.
-use Rattle.std.specs.Prelude.{ℕ, ◌+◌, ◌-◌, ◌%◌, ◌^◌, max, Bool, true, false, ◌&&◌, List, [], ◌∷◌, ◌++◌, length, take, sum_by, nat_lt, nat_le, slice_index_or, slice_set}
+use Rattle.std.specs.Prelude.{ℕ, ◌-◌, ◌%◌, ◌^◌, max, Bool, true, false, ◌&&◌, List, [], ◌∷◌, ◌++◌, length, take, sum_by, nat_lt, nat_le, slice_index_or, slice_set}
 use Rattle.chdr_packets.specs.declared.packet.Packet.{Packet}
 use Rattle.chdr_packets.specs.Length.{wire_of}
 use Rattle.fabric_core.specs.declared.event.Event.{Event}

@@ -1,5 +1,5 @@
 -- What contracts see of a net.
-use Rattle.std.specs.Prelude.{◌≡◌, ℕ, ◌+◌, ◌-◌, ◌≤◌, ◌<◌, ◌==◌, not, Bool, true, ◌&&◌, nat_le, List, [], ◌∷◌, length, map, if◌then◌else◌, Option, None, Some, IsTrue, slice_index_or}
+use Rattle.std.specs.Prelude.{◌≡◌, ℕ, ◌==◌, not, Bool, ◌&&◌, nat_le, List, [], ◌∷◌, length, if◌then◌else◌, Option}
 use Rattle.std.specs.List.{find}
 use Rattle.chdr_packets.specs.declared.packet.Packet.{Packet}
 use Rattle.fabric_core.specs.Machine.{State, has_packet, numbered}

@@ -1,10 +1,10 @@
 -- Runs of the machine: journals, what may come next, ends and tallies.
-use Rattle.std.specs.Prelude.{◌≡◌, ◌==◌, ℕ, ◌+◌, ◌-◌, ◌<◌, ◌≤◌, Bool, true, false, ◌&&◌, not, List, [], ◌∷◌, ◌++◌, length, take, map, Option, None, Some, IsTrue, nat_lt, option_map}
+use Rattle.std.specs.Prelude.{◌≡◌, ◌==◌, ℕ, Bool, true, false, ◌&&◌, not, List, [], ◌∷◌, ◌++◌, length, take, map, Option, None, Some, IsTrue, nat_lt}
 use Rattle.std.specs.List.{find, range_with_len}
 use Rattle.chdr_packets.specs.declared.packet.Packet.{Packet}
 use Rattle.block_library.specs.declared.plan.TxPlan.{TxPlan}
 use Rattle.block_library.specs.Producer.{produced}
-use Rattle.fabric_core.specs.Machine.{Stream, State, stream_at, queue_at, enabled, after, has_packet, outstanding_bytes, outstanding_packets}
+use Rattle.fabric_core.specs.Machine.{Stream, State, stream_at, queue_at, enabled, after, has_packet}
 use Rattle.fabric_core.specs.declared.event.Event.{Event}
 use Rattle.fabric_core.specs.declared.tally.StreamEnd.{StreamEnd}
 use Rattle.fabric_core.specs.declared.tally.StreamEnd.TheVariants.{Drained, Undrained}

@@ -1,5 +1,5 @@
 -- What is kept of a stream, read from the fields.
-use Rattle.std.specs.Prelude.{◌≡◌, ℕ, ◌+◌, ◌-◌, ◌*◌, ◌^◌, ◌≤◌, min, List, length, drop}
+use Rattle.std.specs.Prelude.{◌≡◌, ◌+◌, ◌-◌, ◌*◌, ◌^◌, ◌≤◌, min, length, drop}
 use Rattle.std.specs.VecDeque.{deque_capacity, deque_len}
 use Rattle.block_library.specs.Producer.{FitsPlan, produced}
 use Rattle.fabric_core.specs.Laws.{plain}

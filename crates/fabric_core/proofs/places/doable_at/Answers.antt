@@ -1,6 +1,5 @@
 use Rattle.std.proofs.Common.{inl, inr, refl, ◌&&◌, Bool, sym, ap, ◌∙◌, nat_le}
 use Rattle.fabric_core.proofs.MayLemmas.{doable-other, doable-seen}
-use Rattle.fabric_core.specs.Present.{handed_of}
 use Rattle.fabric_core.specs.NetValue.{doable}
 use Rattle.fabric_core.specs.NetView.{present_of}
 use Rattle.fabric_core.specs.declared.event.Event.TheVariants.{Seen}

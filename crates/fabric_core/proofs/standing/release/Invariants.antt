@@ -1,4 +1,4 @@
-use Rattle.std.proofs.Common.{◌≡◌, ℕ, ◌-◌, drop, take, sum}
+use Rattle.std.proofs.Common.{◌≡◌, ◌-◌, drop, take, sum}
 use Rattle.std.specs.VecDeque.{deque_capacity}
 use Rattle.fabric_core.proofs.standing.release.Given as goal
 

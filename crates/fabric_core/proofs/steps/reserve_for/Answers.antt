@@ -1,4 +1,4 @@
-use Rattle.std.proofs.Common.{◌≡◌, ◌<◌, length, arith, ap, ◌∙◌, sym}
+use Rattle.std.proofs.Common.{◌<◌, length, arith, ap, ◌∙◌}
 use Rattle.fabric_core.specs.NetValue.{Tracked}
 use Rattle.fabric_core.proofs.TrackedLemmas.{found, stands-kept, made-kept}
 use Rattle.fabric_core.proofs.steps.reserve_for.Goals as goal

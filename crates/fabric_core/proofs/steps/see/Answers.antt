@@ -1,4 +1,4 @@
-use Rattle.std.proofs.Common.{◌≡◌, ap, ◌∙◌, sym}
+use Rattle.std.proofs.Common.{ap, ◌∙◌}
 use Rattle.fabric_core.specs.NetValue.{Tracked}
 use Rattle.fabric_core.proofs.TrackedLemmas.{found, stands-set, made-kept}
 use Rattle.fabric_core.specs.Present.{stand_sees}

@@ -1,4 +1,4 @@
-use Rattle.std.proofs.Common.{◌≡◌, ◌<◌, IsTrue, subst, sym, ap}
+use Rattle.std.proofs.Common.{IsTrue, subst, sym, ap}
 use Rattle.fabric_core.specs.Machine.{has_packet}
 use Rattle.fabric_core.specs.NetValue.{Tracked}
 use Rattle.fabric_core.proofs.ReadyLemmas.{ready-within, enters-made}

@@ -1,4 +1,4 @@
-use Rattle.std.proofs.Common.{◌≡◌, ◌<◌, subst, sym, ap, arith, refl, ◌∙◌}
+use Rattle.std.proofs.Common.{◌<◌, subst, sym, ap, arith, refl, ◌∙◌}
 use Rattle.fabric_core.specs.NetValue.{EntersNext, Tracked, stand_after_sending}
 use Rattle.fabric_core.proofs.ReadyLemmas.{enters-within, sends-stand}
 use Rattle.fabric_core.specs.StandingView.{view_of}
