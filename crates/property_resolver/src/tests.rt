@@ -5,7 +5,7 @@ mod plain;
 
 use crate::{CommitFault, Rule, Steps, commit};
 use block_library::BlockKind;
-use graph_core::{Graph, PortAt, Prop, PropAt, Side};
+use graph_core::{ConnectFault, Graph, PortAt, Prop, PropAt, SetFault, Side};
 use rf_base::Memory;
 use std::alloc::Global;
 use std::marker::Brand;
@@ -49,7 +49,7 @@ fn add(graph: &mut Graph, kind: BlockKind) -> Result<(), Memory> {
 /// From an output, block and port, to an input.
 type Link = (u16, u16, u16, u16);
 
-fn link(graph: &mut Graph, ends: Link) -> bool {
+fn connect(graph: &mut Graph, ends: Link) -> Result<u16, ConnectFault> {
     let from = PortAt {
         block: ends.0,
         port: ends.1,
@@ -58,7 +58,11 @@ fn link(graph: &mut Graph, ends: Link) -> bool {
         block: ends.2,
         port: ends.3,
     };
-    graph.connect(from, to).is_ok()
+    graph.connect(from, to)
+}
+
+fn link(graph: &mut Graph, ends: Link) -> bool {
+    connect(graph, ends).is_ok()
 }
 
 fn set(graph: &mut Graph, at: PropAt, value: u64) -> bool {
@@ -148,6 +152,22 @@ fn is_clash(answer: Result<(), CommitFault>) -> bool {
     answer == Err(clash(4, 8)) || answer == Err(clash(8, 4))
 }
 
+/// Whether two different rates clash.
+fn is_rate_clash(answer: Result<(), CommitFault>) -> bool {
+    match answer {
+        Err(
+            CommitFault::Clash {
+                prop,
+                held,
+                derived,
+                ..
+            },
+        ) => prop == Prop::Rate && held != derived,
+        Err(CommitFault::NotWhole { .. } | CommitFault::Unsettled { .. }) => false,
+        Ok(()) | Err(CommitFault::Memory) => false,
+    }
+}
+
 #[test]
 fn a_keep_divides_whole_rates_alone(rt: HostRuntime) -> Result<(), Fail> {
     let mut graph = line(rt.alloc(), BlockKind::Keep(3), 1_000_000)?;
@@ -199,20 +219,7 @@ fn a_value_that_nothing_gives_is_named(rt: HostRuntime) -> Result<(), Fail> {
 #[test]
 fn two_ways_that_differ_clash(rt: HostRuntime) -> Result<(), Fail> {
     let mut graph = ring(rt.alloc(), BlockKind::Fifo, BlockKind::Keep(2))?;
-    match resolve(&mut graph).0 {
-        Err(
-            CommitFault::Clash {
-                prop,
-                held,
-                derived,
-                ..
-            },
-        ) => {
-            assert!(rt; prop == Prop::Rate && held != derived);
-        }
-        other => assert!(rt; other == Ok(())),
-    }
-    assert!(rt; !graph.is_committed());
+    assert!(rt; is_rate_clash(resolve(&mut graph).0) && !graph.is_committed());
     Ok(())
 }
 
@@ -266,14 +273,32 @@ fn a_chain_of_32_blocks_commits(rt: HostRuntime) -> Result<(), Fail> {
     Ok(())
 }
 
+/// A switch and a split after it, with free ports between which an edge would close a cycle.
+fn pair(alloc: Global) -> Result<Graph, Memory> {
+    let kinds = [BlockKind::Switch(0), BlockKind::Split];
+    build(alloc, kinds.as_slice(), [(0, 0, 1, 0)].as_slice(), 8)
+}
+
 #[test]
 fn a_refused_change_leaves_the_graph_committed(rt: HostRuntime) -> Result<(), Fail> {
-    let mut graph = line(rt.alloc(), BlockKind::Fifo, 8)?;
+    let mut graph = pair(rt.alloc())?;
     assert!(rt; resolve(&mut graph).0 == Ok(()));
-    for ends in [(0, 1, 1, 0), (0, 0, 1, 0), (1, 0, 1, 0)] {
-        assert!(rt; !link(&mut graph, ends));
+    for (ends, want) in [
+        ((0, 1, 1, 0), ConnectFault::BadPort),
+        ((0, 0, 0, 1), ConnectFault::PortTaken),
+        ((1, 0, 0, 1), ConnectFault::Cycle),
+    ] {
+        assert!(rt; connect(&mut graph, ends) == Err(want) && graph.is_committed());
+        assert!(rt; resolve(&mut graph).0 == Ok(()));
     }
-    assert!(rt; !set(&mut graph, rate_in(3), 8) && graph.is_committed());
+    assert!(rt; graph.set(rate_in(2), 8) == Err(SetFault::NoProperty) && graph.is_committed());
+    assert!(rt; resolve(&mut graph).0 == Ok(()) && value(&graph, rate_in(0)) == Some(8));
+    Ok(())
+}
+
+#[test]
+fn a_change_leaves_the_values_of_the_last_commit(rt: HostRuntime) -> Result<(), Fail> {
+    let mut graph = pair(rt.alloc())?;
     assert!(rt; resolve(&mut graph).0 == Ok(()));
     assert!(rt; set(&mut graph, rate_in(1), 8) && !graph.is_committed());
     assert!(rt; resolve(&mut graph).0 == Ok(()));

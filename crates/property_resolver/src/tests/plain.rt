@@ -9,11 +9,18 @@ use rf_base::Memory;
 use std::alloc::Global;
 use std::test::Fail;
 
-/// What the sweeps found: values for all, two that differ or none that fits, or one that lacks.
+/// The contradictions that the sweeps met.
+#[derive(Clone, Copy, Debug, PartialEq, Eq)]
+struct Met {
+    clash: bool,
+    not_whole: bool,
+}
+
+/// What the sweeps found: values for all, contradictions, or the first property that lacks a value.
 #[derive(Clone, Copy, Debug, PartialEq, Eq)]
 enum Found {
     Settled,
-    Contrary,
+    Contrary(Met),
     Missing(PropAt),
 }
 
@@ -71,63 +78,72 @@ fn joined(graph: &Graph, from: PropAt, to: PropAt) -> bool {
     false
 }
 
-/// Whether the table has the value, or takes it up.
-fn meets(values: &mut Values, at: PropAt, value: u64) -> Result<bool, Memory> {
+/// The table takes the value up, or the one that it has clashes with it.
+fn meet(values: &mut Values, at: PropAt, value: u64, met: &mut Met) -> Result<(), Memory> {
     match values.get(at) {
-        Some(held) => Ok(held == value),
-        None => {
-            values.put(at, value)?;
-            Ok(true)
+        Some(held) => {
+            met.clash = met.clash || held != value;
+            Ok(())
         }
+        None => values.put(at, value),
     }
 }
 
-/// Applies what joins the two properties; false where it fails or the values differ.
-fn apply(graph: &Graph, values: &mut Values, from: PropAt, to: PropAt) -> Result<bool, Memory> {
+/// Applies what joins the two properties.
+fn apply(
+    graph: &Graph,
+    values: &mut Values,
+    from: PropAt,
+    to: PropAt,
+    met: &mut Met,
+) -> Result<(), Memory> {
     let Some(value) = values.get(from) else {
-        return Ok(true);
+        return Ok(());
     };
-    let mut agrees = true;
     if joined(graph, from, to) {
-        agrees = meets(values, to, value)?;
+        meet(values, to, value, met)?;
     }
     if from.block == to.block && from.prop == to.prop {
         if let Some(kind) = graph.kinds().as_slice().get(from.block as usize) {
             match in_proportion(*kind, from, to, value) {
-                Some(given) => agrees = meets(values, to, given)? && agrees,
-                None => agrees = false,
+                Some(given) => meet(values, to, given, met)?,
+                None => met.not_whole = true,
             }
         }
     }
-    Ok(agrees)
+    Ok(())
 }
 
 /// One sweep over all pairs of properties.
-fn sweep(graph: &Graph, all: &[PropAt], values: &mut Values) -> Result<bool, Memory> {
-    let mut agrees = true;
+fn sweep(graph: &Graph, all: &[PropAt], values: &mut Values, met: &mut Met) -> Result<(), Memory> {
     for from in all {
         for to in all {
-            agrees = apply(graph, values, *from, *to)? && agrees;
+            apply(graph, values, *from, *to, met)?;
         }
     }
-    Ok(agrees)
+    Ok(())
 }
 
-/// Sweeps until nothing new comes.
+/// Sweeps until nothing new comes, past contradictions too.
 fn sweeps(graph: &Graph, all: &[PropAt], values: &mut Values) -> Result<Found, Memory> {
     for at in all {
         if let Some(value) = graph.user(*at) {
             values.put(*at, value)?;
         }
     }
+    let mut met = Met {
+        clash: false,
+        not_whole: false,
+    };
     for _ in 0..=all.len() {
         let before = values.len();
-        if !sweep(graph, all, values)? {
-            return Ok(Found::Contrary);
-        }
+        sweep(graph, all, values, &mut met)?;
         if values.len() == before {
             break;
         }
+    }
+    if met.clash || met.not_whole {
+        return Ok(Found::Contrary(met));
     }
     for at in all {
         if values.get(*at).is_none() {
@@ -178,17 +194,27 @@ fn any_port(dice: &mut Dice) -> u16 {
     dice.roll(2) as u16
 }
 
+fn any_side(dice: &mut Dice) -> Side {
+    match dice.roll(2) {
+        0 => Side::Into,
+        _ => Side::Out,
+    }
+}
+
+/// Sets item and spp at both sides of the block, and the rate of some blocks at one.
 fn set_any(graph: &mut Graph, dice: &mut Dice, block: u16) {
-    for prop in [Prop::Rate, Prop::Item, Prop::Spp] {
-        if prop != Prop::Rate || dice.roll(3) == 0 {
-            let rate = 4 * (1 + dice.roll(2));
-            set(graph, property(block, Side::Into, 0, prop), 4);
-            set(
-                graph,
-                property(block, Side::Out, 0, prop),
-                if prop == Prop::Rate { rate } else { 4 },
-            );
+    for side in [Side::Into, Side::Out] {
+        for prop in [Prop::Item, Prop::Spp] {
+            set(graph, property(block, side, 0, prop), 4);
         }
+    }
+    if dice.roll(2) == 0 {
+        let side = any_side(dice);
+        set(
+            graph,
+            property(block, side, 0, Prop::Rate),
+            1 + dice.roll(4),
+        );
     }
 }
 
@@ -212,7 +238,22 @@ fn any_graph(alloc: Global, dice: &mut Dice) -> Result<Graph, Memory> {
     Ok(graph)
 }
 
+/// The contradictions among what was found.
+fn met_in(found: Found) -> Met {
+    match found {
+        Found::Contrary(met) => met,
+        Found::Settled | Found::Missing(_) => Met {
+            clash: false,
+            not_whole: false,
+        },
+    }
+}
+
 /// Whether the commit and the sweeps agree, values and refusals.
+///
+/// Where the sweeps met one kind of contradiction, the commit must name it; where they met both,
+/// the order of the values decides which is named. After a clash another order may also come to a
+/// rate that isn't whole where the sweeps met none, though on none of these graphs.
 fn agree(
     graph: &Graph,
     all: &[PropAt],
@@ -229,9 +270,8 @@ fn agree(
             }
             found == Found::Settled
         }
-        Err(CommitFault::Clash { held, derived, .. }) => held != derived
-            && found == Found::Contrary,
-        Err(CommitFault::NotWhole { .. }) => found == Found::Contrary,
+        Err(CommitFault::Clash { held, derived, .. }) => held != derived && met_in(found).clash,
+        Err(CommitFault::NotWhole { .. }) => met_in(found).not_whole,
         Err(CommitFault::Unsettled { at }) => found == Found::Missing(at),
         Err(CommitFault::Memory) => false,
     }
@@ -240,7 +280,7 @@ fn agree(
 #[test]
 fn the_worklist_agrees_with_plain_sweeps(rt: HostRuntime) -> Result<(), Fail> {
     let mut dice = Dice { state: 7 };
-    let mut seen = [false; 3];
+    let mut seen = [false; 5];
     for _ in 0..150 {
         let mut graph = any_graph(rt.alloc(), &mut dice)?;
         let all = properties(rt.alloc(), &graph)?;
@@ -250,10 +290,14 @@ fn the_worklist_agrees_with_plain_sweeps(rt: HostRuntime) -> Result<(), Fail> {
         assert!(rt; agree(&graph, all.as_slice(), &values, result, found));
         match found {
             Found::Settled => seen[0] = true,
-            Found::Contrary => seen[1] = true,
-            Found::Missing(_) => seen[2] = true,
+            Found::Missing(_) => seen[1] = true,
+            Found::Contrary(met) => {
+                seen[2] = seen[2] || (met.clash && !met.not_whole);
+                seen[3] = seen[3] || (!met.clash && met.not_whole);
+                seen[4] = seen[4] || (met.clash && met.not_whole);
+            }
         }
     }
-    assert_eq!(rt; seen, [true, true, true]);
+    assert_eq!(rt; seen, [true; 5]);
     Ok(())
 }
