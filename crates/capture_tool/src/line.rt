@@ -2,7 +2,6 @@
 //!
 //! Rule: docs/scripts-and-reports.md, "Listing and check".
 ghost use Rattle.std.specs.Prelude.{◌≡◌, ◌<◌, ◌^◌, ◌++◌, codes, decimal, length, OnOk};
-ghost use Rattle.std.specs.List.{sum_by};
 ghost use Rattle.capture_tool.specs.Names.{◌&◌, cmd_op_text, ctrl_op_text, ctrl_status_text, status_code_text};
 ghost use Rattle.capture_tool.specs.Listing.{access_text, ack_text, body_text, command_text, control_text, flags_text, head_text, line_of, management_text, op_text, ops_in, ops_of, ports_text, samples_text, sort_text, status_text, time_text, words_text};
 
@@ -10,7 +9,7 @@ use crate::names::{put_cmd_op, put_ctrl_op, put_ctrl_status, put_status_code};
 use crate::text::{put, put_field, put_number, put_pair};
 use chdr_packets::{Body, Packet};
 use chdr_stream::Placed;
-use chdr_words::{Command, Control, Hop, Management, Status};
+use chdr_words::{Command, Control, Management, Status, op_count};
 use rf_base::Memory;
 
 fn sort_start(body: &Body) -> &'static [u8]
@@ -163,17 +162,6 @@ fn put_control(out: &mut Vec<u8>, control: &Control) -> Result<(), Memory>
     put_ports(out, control)?;
     put_op(out, control)?;
     put_access(out, control)
-}
-
-fn op_count(hops: &[Hop]) -> usize
-    requires { sum_by length hops.now < 2 ^ 64 }
-    ensures { result ≡ sum_by length hops.now }
-{
-    let mut count = 0;
-    for hop in hops {
-        count += hop.len();
-    }
-    count
 }
 
 fn put_management(out: &mut Vec<u8>, management: &Management) -> Result<(), Memory>

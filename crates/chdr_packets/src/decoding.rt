@@ -10,8 +10,8 @@ use crate::fault::PacketFault;
 use crate::packet::{Body, Packet};
 use chdr_words::{
     Bytes, Header, MsgFault, PktType, Word, WordList, decode_command, decode_control,
-    decode_management, decode_status, is_control, is_management, is_plain_control, wire_size,
-    word_at,
+    decode_management, decode_status, is_control, is_management, is_plain_control,
+    is_plain_management, is_plain_status, wire_size, word_at,
 };
 use rf_base::{Items, Memory};
 use std::alloc::Global;
@@ -228,8 +228,8 @@ fn is_plain_payload(pkt_type: PktType, payload: &[u8]) -> bool
     ensures { result ≡ payload_plain pkt_type payload.now }
 {
     match pkt_type {
-        PktType::Management => word_at(payload, 0) / (1 << 26) % (1 << 19) == 0,
-        PktType::Status => word_at(payload, 0) / (1 << 20) % (1 << 4) == 0,
+        PktType::Management => is_plain_management(payload),
+        PktType::Status => is_plain_status(payload),
         PktType::Control => is_plain_control(payload),
         PktType::Command | PktType::Plain | PktType::Timed | PktType::Reserved(_) => true,
     }

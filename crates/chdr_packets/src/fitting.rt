@@ -7,9 +7,11 @@ ghost use Rattle.chdr_words.specs.Management.{FitsHop, FitsManagement, FitsOp};
 ghost use Rattle.chdr_packets.specs.Fits.{FitsBody, FitsPacket};
 ghost use Rattle.chdr_packets.specs.Length.{length_of};
 
-use crate::length::{op_count, time_bytes};
+use crate::length::time_bytes;
 use crate::packet::{Body, Packet};
-use chdr_words::{CmdOp, Command, Control, CtrlOp, Hop, Management, MgmtOp, Status, StatusCode};
+use chdr_words::{
+    CmdOp, Command, Control, CtrlOp, Hop, Management, MgmtOp, Status, StatusCode, op_count,
+};
 
 fn fits_code(code: StatusCode) -> bool
     ensures { IsTrue result ↔ FitsStatusCode code }

@@ -1,10 +1,9 @@
-ghost use Rattle.std.specs.Prelude.{◌≡◌, ◌<◌, ◌≤◌, ◌^◌, length};
-ghost use Rattle.std.specs.List.{sum_by};
+ghost use Rattle.std.specs.Prelude.{◌≡◌, ◌≤◌};
 ghost use Rattle.chdr_packets.specs.Length.{body_length, length_of, wire_of};
 ghost use Rattle.chdr_words.specs.Wire.{time_bytes};
 
 use crate::packet::{Body, Packet};
-use chdr_words::{Hop, wire_size};
+use chdr_words::{op_count, wire_size};
 
 /// The bytes of a timestamp word, where there is one.
 pub(crate) fn time_bytes(time: Option<u64>) -> usize
@@ -14,18 +13,6 @@ pub(crate) fn time_bytes(time: Option<u64>) -> usize
         None => 0,
         Some(_) => 8,
     }
-}
-
-/// The operations of all hops.
-pub(crate) fn op_count(hops: &[Hop]) -> usize
-    requires { sum_by length hops.now < 2 ^ 64 }
-    ensures { result ≡ sum_by length hops.now }
-{
-    let mut count = 0;
-    for hop in hops {
-        count += hop.len();
-    }
-    count
 }
 
 fn body_length(body: &Body) -> usize

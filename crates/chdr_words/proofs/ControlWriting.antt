@@ -87,10 +87,6 @@ op_spells status op enables addr h1 h2 h3 h4 = record {
   plain = omega arith;
 }
 
--- what stands behind word 0, the time and the operation
-abbrev tail_of : List ℕ → List ℕ → List ℕ
-tail_of words rest = halves_bytes words ++ rest
-
 head_first : (time : Option ℕ) (head op : ℕ) (words rest : List ℕ) → head < 2 ^ 64
     → word_at (to_le_bytes w64 head ++ time_spelled time ++ to_le_bytes w32 op ++ halves_bytes words ++ rest) 0 ≡ head
 unfolding word_at
@@ -160,10 +156,6 @@ rest_zero true size time head op words e is =
     or_left _ _ (eq-eqb _ _ (length-whole time head op words [] ∙ rw is (omega arith)))
 rest_zero false size time head op words e is =
     or_right _ _ (eq-eqb _ _ (rest_read size time head op words is))
-
--- the whole, over a time that is given apart
-abbrev at_time : Control → Option ℕ → Control
-at_time c time = record c { time = time }
 
 pub record Ranged (c : Control) : Type 0 where
   pub src : c.src.0 < 2 ^ 16

@@ -14,6 +14,15 @@ pub enum CmdOp {
 }
 
 /// A stream command, from a sender to its receiver.
+///
+///      63              24 23       20 19  16 15     0
+///     +------------------+-----------+------+--------+
+///     | packets          | op_data   | op   | src    |
+///     +------------------+-----------+------+--------+
+///     | bytes                                        |
+///     +----------------------------------------------+
+///
+/// Rule: docs/wire-format.md, "Stream command".
 #[derive(Clone, Copy, Debug, PartialEq, Eq)]
 pub struct Command {
     pub op: CmdOp,
@@ -33,7 +42,7 @@ fn op_of(number: u8) -> CmdOp
         0 => CmdOp::Init,
         1 => CmdOp::Ping,
         2 => CmdOp::Resync,
-        other => CmdOp::Other(other),
+        3..=255 => CmdOp::Other(number),
     }
 }
 

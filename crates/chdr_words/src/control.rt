@@ -7,6 +7,7 @@ use crate::bytes::{half_at, put_half, put_halves, put_word, word_at};
 use crate::{Epid, MsgFault, Words15};
 use rf_base::{Copyable, Memory};
 
+/// What an acknowledgement says of its request.
 #[derive(Clone, Copy, Debug, PartialEq, Eq)]
 pub enum CtrlStatus {
     Okay,
@@ -30,6 +31,22 @@ pub enum CtrlOp {
 }
 
 /// A control request, or its acknowledgement.
+///
+///      63     48 47     32  31  30 29  24 23  20 19          10 9           0
+///     +---------+---------+---+---+------+------+--------------+-------------+
+///     | free    | src     |ack| t | seq  | num  | src_port     | dst_port    |
+///     +---------+---------+---+---+------+------+--------------+-------------+
+///     | time, where t is set                                                 |
+///     +----------------------------------------------------------------------+
+///
+///      31    30 29    28 27    24 23      20 19         0
+///     +--------+--------+--------+----------+------------+
+///     | status | free   | op     | enables  | addr       |
+///     +--------+--------+--------+----------+------------+
+///     | num words                                        |
+///     +--------------------------------------------------+
+///
+/// Rule: docs/wire-format.md, "Control".
 #[derive(Debug, Drop, PartialEq, Eq)]
 pub struct Control {
     pub src: Epid,
@@ -74,7 +91,7 @@ fn status_of(number: u8) -> CtrlStatus
         0 => CtrlStatus::Okay,
         1 => CtrlStatus::CmdErr,
         2 => CtrlStatus::TsErr,
-        _ => CtrlStatus::Warning,
+        3..=255 => CtrlStatus::Warning,
     }
 }
 
@@ -101,10 +118,8 @@ fn op_of(number: u8) -> CtrlOp
         4 => CtrlOp::BlockWrite,
         5 => CtrlOp::BlockRead,
         6 => CtrlOp::Poll,
-        7 => CtrlOp::Other(7),
-        8 => CtrlOp::Other(8),
-        9 => CtrlOp::Other(9),
-        user => CtrlOp::User(user),
+        7..=9 => CtrlOp::Other(number),
+        10..=255 => CtrlOp::User(number),
     }
 }
 
@@ -202,7 +217,9 @@ fn spell(v: &Control, out: &mut [u8; 80]) -> usize
     }
 }
 
-/// Writes the canonical spelling, whose size is rounded up to words, and answers its bytes.
+/// Writes the canonical spelling, whose size is rounded up to words, and answers that size.
+///
+/// What stands in `out` behind it isn't told.
 pub fn encode_control(v: &Control, out: &mut [u8; 80]) -> usize
     requires { FitsControl v.now }
     ensures size { result ≡ wire_size_of (control_size (time_bytes v.now.time) (length v.now.words)) }

@@ -53,7 +53,7 @@ fn type_of(code: u8) -> PktType
         4 => PktType::Control,
         6 => PktType::Plain,
         7 => PktType::Timed,
-        reserved => PktType::Reserved(reserved),
+        3 | 5 | 8..=255 => PktType::Reserved(code),
     }
 }
 

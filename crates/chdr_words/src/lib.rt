@@ -24,9 +24,12 @@ pub use epid::Epid;
 pub use fault::MsgFault;
 pub use header::{Header, PktType};
 pub use lists::{Bytes, Bytes32, EpidList, Hop, HopList, WordList};
-pub use management::{Management, MgmtOp, decode_management, encode_management, is_management};
+pub use management::{
+    Management, MgmtOp, decode_management, encode_management, is_management, is_plain_management,
+    op_count,
+};
 pub use node_info::{Cfg, NodeInfo};
-pub use status::{Status, StatusCode, decode_status, encode_status};
+pub use status::{Status, StatusCode, decode_status, encode_status, is_plain_status};
 pub use wire::wire_size;
 pub use word::Word;
 pub use words15::Words15;

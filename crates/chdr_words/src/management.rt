@@ -1,6 +1,7 @@
-ghost use Rattle.std.specs.Prelude.{◌≡◌, ◌<◌, ◌≤◌, ◌^◌, ◌+◌, ◌-◌, ◌*◌, ◌/◌, ◌%◌, ◌==◌, ◌||◌, if◌then◌else◌, ◌++◌, length, IfOk, OnOk, IsTrue};
+ghost use Rattle.std.specs.Prelude.{◌≡◌, ◌<◌, ◌≤◌, ◌^◌, ◌+◌, ◌==◌, ◌||◌, if◌then◌else◌, ◌++◌, length, IfOk, OnOk, IsTrue};
+ghost use Rattle.std.specs.List.{sum_by};
 ghost use Rattle.chdr_words.specs.Field.{words_bytes};
-ghost use Rattle.chdr_words.specs.Management.{FitsHop, FitsManagement, FitsOp, SpellsManagement, hop_words, are_hops, hops_of, management_formed, management_plain, management_read, management_words, op_of, op_word, words_of, FitsOp};
+ghost use Rattle.chdr_words.specs.Management.{FitsHop, FitsManagement, FitsOp, SpellsManagement, hop_words, are_hops, hops_of, management_formed, management_plain, management_read, management_words, op_of, op_word, words_of};
 ghost use Rattle.chdr_words.specs.Reads.{Reads};
 
 use crate::bytes::word_at;
@@ -9,6 +10,13 @@ use rf_base::{Copyable, Items, Memory};
 use std::alloc::Global;
 
 /// One operation of a hop: its code, and a payload below 2^48.
+///
+///      63                  16 15      8 7         0
+///     +----------------------+---------+-----------+
+///     | payload              | code    | pending   |
+///     +----------------------+---------+-----------+
+///
+/// Rule: docs/wire-format.md, "Operations".
 #[derive(Clone, Copy, Debug, PartialEq, Eq)]
 pub struct MgmtOp {
     pub code: u8,
@@ -22,6 +30,15 @@ impl Copyable for MgmtOp {
 }
 
 /// A management payload: the hops that nodes are still to perform, the next one first.
+///
+///      63     48 47   45 44      26 25            16 15    0
+///     +---------+-------+----------+----------------+-------+
+///     | version | width | free     | number of hops | src   |
+///     +---------+-------+----------+----------------+-------+
+///     | the operations of each hop                          |
+///     +-----------------------------------------------------+
+///
+/// Rule: docs/wire-format.md, "Management".
 #[derive(Debug, Drop, PartialEq, Eq)]
 pub struct Management {
     pub version: u16,
@@ -61,6 +78,26 @@ pub fn is_management(b: &[u8]) -> bool
     }
     let count = (word_at(b, 0) / (1 << 16) % (1 << 10)) as usize;
     hops_run_down(b, count)
+}
+
+/// The operations of all hops.
+pub fn op_count(hops: &[Hop]) -> usize
+    requires { sum_by length hops.now < 2 ^ 64 }
+    ensures { result ≡ sum_by length hops.now }
+{
+    let mut count = 0;
+    for hop in hops {
+        count += hop.len();
+    }
+    count
+}
+
+/// Whether the reserved bits of a management payload are zero.
+pub fn is_plain_management(b: &[u8]) -> bool
+    requires { 8 ≤ length b.now }
+    ensures { result ≡ management_plain b.now }
+{
+    word_at(b, 0) / (1 << 26) % (1 << 19) == 0
 }
 
 fn follows(pending: u64, next: u64) -> bool

@@ -1,4 +1,4 @@
-ghost use Rattle.std.specs.Prelude.{◌≡◌, ◌<◌, ◌^◌, IfOk, IsTrue};
+ghost use Rattle.std.specs.Prelude.{◌≡◌, ◌<◌, ◌^◌, length, IfOk, IsTrue};
 ghost use Rattle.chdr_words.specs.Status.{FitsStatus, FitsStatusCode, SpellsStatus, status_code_of, status_number, status_plain, status_read};
 
 use crate::bytes::{four_words, word_at};
@@ -16,9 +16,23 @@ pub enum StatusCode {
 }
 
 /// A stream status: what a receiver can hold, and what it has passed on.
+///
+///      63                24 23    20 19   16 15        0
+///     +--------------------+--------+-------+-----------+
+///     | cap_bytes          | free   | code  | src       |
+///     +--------------------+--------+-------+-----------+
+///     | got_packets        | cap_packets                |
+///     +--------------------+----------------------------+
+///     | got_bytes                                       |
+///     +-------------------------------------+-----------+
+///     | info                                | buffer    |
+///     +-------------------------------------+-----------+
+///
+/// Rule: docs/wire-format.md, "Stream status".
 #[derive(Clone, Copy, Debug, PartialEq, Eq)]
 pub struct Status {
     pub code: StatusCode,
+    /// The receiver's EPID.
     pub src: Epid,
     /// The receiver's buffer in bytes, below 2^40.
     pub cap_bytes: u64,
@@ -30,6 +44,7 @@ pub struct Status {
     pub got_bytes: u64,
     /// What the code tells besides, below 2^48.
     pub info: u64,
+    /// Of a receiver's buffer; passed as it is.
     pub buffer: u16,
 }
 
@@ -42,7 +57,7 @@ fn code_of(number: u8) -> StatusCode
         2 => StatusCode::SeqErr,
         3 => StatusCode::DataErr,
         4 => StatusCode::RtErr,
-        other => StatusCode::Other(other),
+        5..=255 => StatusCode::Other(number),
     }
 }
 
@@ -73,6 +88,14 @@ pub fn encode_status(v: &Status) -> [u8; 32]
         v.got_bytes,
         v.info * (1 << 16) + v.buffer as u64,
     )
+}
+
+/// Whether the reserved bits of a status payload are zero.
+pub fn is_plain_status(b: &[u8]) -> bool
+    requires { length b.now ≡ 32 }
+    ensures { result ≡ status_plain b.now }
+{
+    word_at(b, 0) / (1 << 20) % (1 << 4) == 0
 }
 
 /// The status that the payload spells; each payload of the right size spells one.
