@@ -78,7 +78,8 @@ pub fn put_half(out: &mut [u8], at: usize, word: u32)
 /// Writes words of 32 bits behind the first `at` bytes, which stay.
 pub fn put_halves(out: &mut [u8], at: usize, words: &[u32])
     requires { at + 4 * length words.now ≤ length out.old }
-    ensures bytes { take (at + 4 * length words.now) out.new ≡ take at out.old ++ halves_bytes words.now }
+    ensures bytes { take (at + 4 * length words.now) out.new
+        ≡ take at out.old ++ halves_bytes words.now }
     ensures ranged { All (λ word. word < 2 ^ 32) words.now }
 {
     for (k, word) in words.iter().enumerate() {

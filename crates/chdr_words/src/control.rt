@@ -16,7 +16,8 @@ pub enum CtrlStatus {
     Warning,
 }
 
-/// A control operation; the number is its code on the wire, 7 to 9 for `Other`, 10 to 15 for `User`.
+/// A control operation; the number is its code on the wire, 7 to 9 for `Other` and 10 to 15 for
+/// `User`.
 #[derive(Clone, Copy, Debug, PartialEq, Eq)]
 pub enum CtrlOp {
     Sleep,
@@ -191,7 +192,8 @@ fn op_word(v: &Control) -> u32
 
 fn spell(v: &Control, out: &mut [u8; 80]) -> usize
     requires { FitsControl v.now }
-    ensures size { result ≡ wire_size_of (control_size (time_bytes v.now.time) (length v.now.words)) }
+    ensures size { result
+        ≡ wire_size_of (control_size (time_bytes v.now.time) (length v.now.words)) }
     ensures bytes { take result out.new ≡ control_bytes v.now }
     ensures src { v.now.src.0 < 2 ^ 16 }
     ensures time { IfSome v.now.time (λ time. time < 2 ^ 64) }
@@ -222,7 +224,8 @@ fn spell(v: &Control, out: &mut [u8; 80]) -> usize
 /// What stands in `out` behind it isn't told.
 pub fn encode_control(v: &Control, out: &mut [u8; 80]) -> usize
     requires { FitsControl v.now }
-    ensures size { result ≡ wire_size_of (control_size (time_bytes v.now.time) (length v.now.words)) }
+    ensures size { result
+        ≡ wire_size_of (control_size (time_bytes v.now.time) (length v.now.words)) }
     ensures spells { SpellsControl v.now (take result out.new) }
     ensures plain { IsTrue (control_plain (take result out.new)) }
 {
@@ -232,7 +235,8 @@ pub fn encode_control(v: &Control, out: &mut [u8; 80]) -> usize
 /// Whether the payload has one of the two sizes that its first word announces.
 pub fn is_control(b: &[u8]) -> bool
     ensures sized { result ≡ control_sized b.now }
-    ensures long { IsTrue result → control_size (told_time b.now) (told_count b.now) ≤ length b.now }
+    ensures long { IsTrue result →
+        control_size (told_time b.now) (told_count b.now) ≤ length b.now }
 {
     if b.len() < 12 {
         return false;
