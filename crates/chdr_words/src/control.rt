@@ -232,6 +232,35 @@ pub fn encode_control(v: &Control, out: &mut [u8; 80]) -> usize
     spell(v, out)
 }
 
+/// The bytes of the time that word 0 announces.
+fn told_time(first: u64) -> usize
+    ensures { result ≡ 8 * field first 30 30 }
+{
+    8 * (first / (1 << 30) % 2) as usize
+}
+
+/// The words that word 0 announces, at most 15.
+fn told_count(first: u64) -> usize
+    ensures { result ≡ field first 23 20 }
+{
+    (first / (1 << 20) % (1 << 4)) as usize
+}
+
+fn size_of(time: usize, count: usize) -> usize
+    requires time { time ≤ 8 }
+    requires count { count ≤ 15 }
+    ensures { result ≡ control_size time count }
+{
+    12 + time + 4 * count
+}
+
+fn rounded(size: usize) -> usize
+    requires { size ≤ 80 }
+    ensures { result ≡ wire_size_of size }
+{
+    (size + 7) / 8 * 8
+}
+
 /// Whether the payload has one of the two sizes that its first word announces.
 pub fn is_control(b: &[u8]) -> bool
     ensures sized { result ≡ control_sized b.now }
@@ -242,10 +271,9 @@ pub fn is_control(b: &[u8]) -> bool
         return false;
     }
     let first = word_at(b, 0);
-    let time = 8 * (first / (1 << 30) % 2) as usize;
-    let count = (first / (1 << 20) % (1 << 4)) as usize;
-    let size = 12 + time + 4 * count;
-    b.len() == size || b.len() == (size + 7) / 8 * 8
+    let time = told_time(first);
+    let size = size_of(time, told_count(first));
+    b.len() == size || b.len() == rounded(size)
 }
 
 /// Whether a payload of a good size has zero reserved bits, the rounded size, and a zero rest.
@@ -253,16 +281,12 @@ pub fn is_plain_control(b: &[u8]) -> bool
     requires { IsTrue (control_sized b.now) }
     ensures { result ≡ control_plain b.now }
 {
-    if b.len() < 12 {
-        return false;
-    }
     let first = word_at(b, 0);
-    let time = 8 * (first / (1 << 30) % 2) as usize;
-    let count = (first / (1 << 20) % (1 << 4)) as usize;
-    let size = 12 + time + 4 * count;
+    let time = told_time(first);
+    let size = size_of(time, told_count(first));
     first / (1 << 48) == 0
         && half_at(b, 8 + time) / (1 << 28) % 4 == 0
-        && b.len() == (size + 7) / 8 * 8
+        && b.len() == rounded(size)
         && (b.len() == size || half_at(b, size) == 0)
 }
 
@@ -273,8 +297,8 @@ fn read(b: &[u8]) -> Result<Control, MsgFault>
         return Err(MsgFault::BadControlLength);
     }
     let first = word_at(b, 0);
-    let time = 8 * (first / (1 << 30) % 2) as usize;
-    let count = (first / (1 << 20) % (1 << 4)) as usize;
+    let time = told_time(first);
+    let count = told_count(first);
     let op = half_at(b, 8 + time);
     Ok(Control {
         src: Epid((first / (1 << 32) % (1 << 16)) as u16),
