@@ -1,4 +1,5 @@
 pub mod Counts
+pub mod Epochs
 pub mod Flow
 pub mod InEnd
 pub mod OutEnd

@@ -9,7 +9,8 @@ use Rattle.stream_endpoint.specs.declared.flow.Flow.{Flow}
 use Rattle.stream_endpoint.specs.declared.state.Arrived.TheVariants.{Kept, Discarded, Gap as GapAt}
 use Rattle.stream_endpoint.specs.declared.state.OutState.TheVariants.{Opening, Running, Resyncing}
 use Rattle.stream_endpoint.specs.Counts.{none, plus, one_of}
-use Rattle.stream_endpoint.specs.Flow.{HasCredit, frequency}
+use Rattle.stream_endpoint.specs.Epochs.{ordered_by}
+use Rattle.stream_endpoint.specs.Flow.{HasCredit}
 use Rattle.stream_endpoint.specs.InEnd.{code_by}
 use Rattle.stream_endpoint.specs.Receiver.{arrival, arrives, expected, is_due, obeys, reports, takes}
 use Rattle.stream_endpoint.specs.Sender.{Sender, MaySend, commands, hears, is_covered, sends}
@@ -69,12 +70,9 @@ MayOrder terms st Ping = CallsForPing terms st
 MayOrder terms st Resync = (st.sender.state ≡ Resyncing) × ((st.sender.commanded ≡ false) ⊎ IsQuiet st)
 MayOrder terms st (Other code) = ⊥
 
--- the whole counts of a command: the frequency of INIT, the totals of RESYNC
+-- the whole counts of a command
 abbrev pub ordered : Terms → Sender → CmdOp → Count
-ordered terms s Init = frequency terms.flow
-ordered terms s Ping = none
-ordered terms s Resync = s.sent
-ordered terms s (Other code) = none
+ordered terms s op = ordered_by terms.flow s op
 
 abbrev pub Allowed : {A : Type 0} → Terms → State A → Act A → Type 0
 Allowed terms st (Fill loads) =

@@ -1,13 +1,13 @@
 -- The machine of one stream: its producer, both ends, and what is under way between them.
-use Rattle.std.specs.Prelude.{ℕ, ◌+◌, ◌%◌, ◌^◌, Bool, false, Option, List, [], length}
+use Rattle.std.specs.Prelude.{ℕ, ◌+◌, ◌%◌, ◌^◌, Bool, false, List, [], length}
 use Rattle.std.specs.List.{sum_by}
 use Rattle.chdr_words.specs.declared.command.CmdOp.{CmdOp}
 use Rattle.stream_endpoint.specs.declared.count.Count.{Count}
 use Rattle.stream_endpoint.specs.declared.flow.Flow.{Flow}
 use Rattle.stream_endpoint.specs.declared.flow.Policy.{Policy}
-use Rattle.stream_endpoint.specs.declared.state.Gap.{Gap}
 use Rattle.stream_endpoint.specs.Counts.{none}
-use Rattle.stream_endpoint.specs.Receiver.{Receiver, listening, transferred}
+pub use Rattle.stream_endpoint.specs.Epochs.{Cut, Told, told_by}
+use Rattle.stream_endpoint.specs.Receiver.{Receiver, listening}
 use Rattle.stream_endpoint.specs.Sender.{Sender, opening}
 
 -- what a stream was made for; its counts begin at the start
@@ -30,16 +30,6 @@ count_of loads = record { packets = length loads; bytes = sum_by (λ load. load.
 pub data Entry (A : Type 0) : Type 0 where
   Data : ℕ → Load A → Entry A
   Command : CmdOp → Count → Entry A
-
--- a status, under way from the consumer: the receiver's gap and its whole transferred counts
-pub record Told : Type 0 where
-  pub gap : Option Gap
-  pub told : Count
-
--- how much was sent and given when a RESYNC arrived: there one epoch ends and the next begins
-pub record Cut : Type 0 where
-  pub sent : ℕ
-  pub given : ℕ
 
 pub record State (A : Type 0) : Type 0 where
   -- what the producer has made and not sent
@@ -88,7 +78,3 @@ opens terms = record {
 -- the number of the packet at a place of what was sent
 abbrev pub number_at : Terms → ℕ → ℕ
 number_at terms place = (terms.start.packets + place) % 2 ^ 16
-
--- the status that tells a receiver
-abbrev pub told_by : Receiver → Told
-told_by r = record { gap = r.broken; told = transferred r }
