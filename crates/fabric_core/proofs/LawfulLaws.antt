@@ -8,7 +8,7 @@ use Rattle.fabric_core.specs.Machine.{Stream, State, stream_at, queue_at, enable
 use Rattle.fabric_core.specs.Runs.{start}
 use Rattle.fabric_core.specs.Laws.{IsLawful, IsLawfulAt, StaysLawful, StartsLawful, numbered_from, plain}
 use Rattle.fabric_core.specs.declared.event.Event.TheVariants.{Enter, Hop, Seen}
-use Rattle.fabric_core.proofs.PlaceLemmas.{at-set, one-set}
+use Rattle.rf_base.proofs.Places.{at-set, one-set}
 
 sends-lawful : (made : List Packet) (st : Stream) (queue : List Packet) (first : Packet) (rest : List Packet) →
     st.ready ≡ first ∷ rest → IsLawfulAt made st queue →

@@ -1,8 +1,6 @@
-pub mod PlaceLemmas
 pub mod StandLaws
 pub mod PresentLaws
 pub mod LawfulLaws
-pub mod Finds
 pub mod MayLemmas
 pub mod ReadyLemmas
 pub mod SizeLemmas

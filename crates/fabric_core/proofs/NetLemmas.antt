@@ -11,7 +11,7 @@ use Rattle.fabric_core.specs.NetView.{IsCounted, present_of, stands_of, tracked_
 use Rattle.fabric_core.specs.Laws.{IsLawful}
 use Rattle.fabric_core.specs.declared.event.Event.{Event}
 use Rattle.fabric_core.specs.declared.event.Event.TheVariants.{Enter, Hop, Seen}
-use Rattle.fabric_core.proofs.PlaceLemmas.{at-set, one-set}
+use Rattle.rf_base.proofs.Places.{at-set, one-set}
 use Rattle.fabric_core.proofs.StepLemmas.{both, present-is}
 use Rattle.fabric_core.proofs.MayLemmas.{stand-tracked}
 use Rattle.fabric_core.proofs.PresentLaws.{may-enabled, follows}

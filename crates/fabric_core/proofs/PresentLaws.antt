@@ -6,7 +6,7 @@ use Rattle.fabric_core.specs.Laws.{PresentTells, PresentFollows, IsLawful}
 use Rattle.chdr_packets.specs.declared.packet.Packet.{Packet}
 use Rattle.std.proofs.lemmas.List.{length-set}
 use Rattle.std.proofs.lemmas.Bool.Decides.{nat_tests}
-use Rattle.fabric_core.proofs.PlaceLemmas.{both-set}
+use Rattle.rf_base.proofs.Places.{both-set}
 use Rattle.fabric_core.proofs.StandLaws.{kept-sends, kept-gets, kept-sees}
 use Rattle.fabric_core.specs.declared.event.Event.TheVariants.{Enter, Hop, Seen}
 

@@ -15,7 +15,7 @@ use Rattle.fabric_core.specs.Runs.{IsLegal, IsAtRest, IsChosen, after_all, chose
 use Rattle.fabric_core.specs.Laws.{IsLawful, OrderHolds, KeepsOrder, RestIsDrained, DrainedIsAll, ChosenIsWhole, numbered_from}
 use Rattle.fabric_core.specs.declared.event.Event.{Event}
 use Rattle.fabric_core.specs.declared.event.Event.TheVariants.{Enter, Hop, Seen}
-use Rattle.fabric_core.proofs.Finds.{find-passes, find-misses}
+use Rattle.rf_base.proofs.Finds.{find-passes, find-misses}
 use Rattle.fabric_core.proofs.LawfulLaws.{stays, starts}
 
 -- every state of a legal journal is lawful

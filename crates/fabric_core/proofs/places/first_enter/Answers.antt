@@ -2,7 +2,7 @@ use Rattle.std.proofs.Common.{length, sym, ◌∙◌, arith}
 use Rattle.fabric_core.specs.Present.{may}
 use Rattle.fabric_core.specs.NetView.{present_of}
 use Rattle.fabric_core.specs.declared.event.Event.TheVariants.{Enter}
-use Rattle.fabric_core.proofs.Finds.{find-first, find-nowhere}
+use Rattle.rf_base.proofs.Finds.{find-first, find-nowhere}
 use Rattle.fabric_core.proofs.places.first_enter.Goals as goal
 
 pub returns-then-may_at : goal.returns-then-may_at
