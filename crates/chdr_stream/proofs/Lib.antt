@@ -4,3 +4,4 @@ pub mod CaptureLemmas
 pub mod FaultLemmas
 pub mod CutLemmas
 pub mod SameLemmas
+pub mod RestLemmas

@@ -4,3 +4,4 @@ pub mod FirstFault
 pub mod Places
 pub mod Calls
 pub mod Laws
+pub mod Rest

@@ -3,6 +3,7 @@
 //! Each law is a function that does nothing and promises it.
 //!
 //! Rule: docs/wire-format.md, "Captures".
+ghost use Rattle.chdr_stream.specs.Rest.{PassesBytes, ShowsAll, ShowsCut, ShowsFault, ShowsFed, ShowsGiven};
 ghost use Rattle.chdr_stream.specs.Laws.{EndsWhole, HasNone, HasOne, IsACall, IsAnyCut, IsSameCut, IsWholeOrFaulty, KeepsRest, NamesCut, NamesFault, PassTells, ShowsCaptures, ShowsFirstFault, ShowsLongest, ShowsOnly, ShowsPlaces, StaysAtFault};
 
 /// Bytes show no fault exactly where they are a capture of the packets shown, and of these alone.
@@ -44,4 +45,14 @@ pub fn a_stream_stops_at_the_first_fault()
     ensures cut { NamesCut }
     ensures whole { EndsWhole }
     ensures stays { StaysAtFault }
+{}
+
+/// A decoder shows what its bytes and those that follow are, from what it has given on.
+pub fn a_decoder_shows_what_follows()
+    ensures all { ShowsAll }
+    ensures fed { ShowsFed }
+    ensures given { ShowsGiven }
+    ensures fault { ShowsFault }
+    ensures cut { ShowsCut }
+    ensures passes { PassesBytes }
 {}

@@ -11,8 +11,9 @@ mod placed;
 
 pub use decoder::Decoder;
 pub use laws::{
-    a_stream_stops_at_the_first_fault, any_cut_gives_the_same, calls_do_what_clauses_say,
-    captures_show_no_fault, packets_tell_their_places, the_fault_is_the_first,
+    a_decoder_shows_what_follows, a_stream_stops_at_the_first_fault, any_cut_gives_the_same,
+    calls_do_what_clauses_say, captures_show_no_fault, packets_tell_their_places,
+    the_fault_is_the_first,
 };
 pub use placed::{FinishFault, Passed, Placed, StreamFault};
 
