@@ -1,7 +1,9 @@
 use std::alloc::{AllocError, AllocFailed};
+use thiserror::Error;
 
-/// Want of memory: the one answer that no clause ties to a cause.
-#[derive(Clone, Copy, Debug, PartialEq, Eq)]
+/// An allocation was refused: the one error that no clause ties to a cause.
+#[derive(Clone, Copy, Debug, PartialEq, Eq, Error)]
+#[error("out of memory")]
 pub struct Memory;
 
 impl From<AllocError> for Memory {

@@ -53,3 +53,12 @@ fn lists_are_copied_whole(rt: HostRuntime) -> Result<(), Fail> {
     );
     Ok(())
 }
+
+#[test]
+fn memory_says_itself_in_words(rt: HostRuntime) -> Result<(), Fail> {
+    assert_eq!(rt;
+        format!(in rt.alloc(); "{Memory}")?.as_str(),
+        "out of memory"
+    );
+    Ok(())
+}

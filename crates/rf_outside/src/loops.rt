@@ -4,8 +4,7 @@ ghost use Rattle.rf_outside.specs.Bytes.{Adds, AddsPrefix};
 ghost use Rattle.rf_outside.specs.Causes.{HasCause, Rose};
 
 use crate::{Failed, ReadAllFault, Sink, Source};
-use chdr_words::Bytes;
-use rf_base::Items;
+use rf_base::{Bytes, Items};
 use std::alloc::Global;
 
 /// All bytes of the source, up to its end.

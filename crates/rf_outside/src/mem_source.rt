@@ -5,12 +5,8 @@ ghost use Rattle.rf_outside.specs.Causes.{CountsFaults, HasCause};
 ghost use Rattle.rf_outside.specs.Played.{moved_by, risen};
 
 use crate::{Failed, Source};
-use chdr_words::Bytes;
-use rf_base::Items;
+use rf_base::{Bytes, CountList};
 use std::marker::Model;
-
-/// Numbers of calls, or of bytes.
-pub type CountList = Items<u64>;
 
 /// A source in memory that cuts its reads, and fails some of them, by lists.
 #[derive(Debug, Drop)]

@@ -8,8 +8,7 @@ ghost use Rattle.rf_outside.specs.Played.{is_past, told};
 use crate::mem_sink::keep;
 use crate::mem_source::give;
 use crate::{Failed, Sink, Source};
-use chdr_words::Bytes;
-use rf_base::Memory;
+use rf_base::{Bytes, Memory};
 use std::alloc::Global;
 use std::marker::Model;
 

@@ -2,8 +2,7 @@ use crate::{
     CountList, Failed, MemSink, MemSource, ReadAllFault, Sink, Source, StdSink, StdSource,
     SureSink, SureSource, read_all, write_all,
 };
-use chdr_words::Bytes;
-use rf_base::{Items, Memory};
+use rf_base::{Bytes, Items, Memory};
 use std::alloc::Global;
 use std::io::{Cursor, ErrorKind, Read, Write};
 use std::test::Fail;
