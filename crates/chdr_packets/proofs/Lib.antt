@@ -7,3 +7,5 @@ pub mod LawLemmas
 pub mod CanonLemmas
 pub mod UniqueLemmas
 pub mod SpellingLemmas
+pub mod ReadLemmas
+pub mod Laws

@@ -2,6 +2,7 @@
 ghost use Rattle.std.specs.Prelude.{◌≡◌, ◌↔◌, ◌+◌, ◌*◌, ◌≤◌, ◌==◌, ◌<◌, length, Some, None, Ok, IfOk, IfSome, take, ℕ, IfNone, Option};
 ghost use Rattle.std.specs.List.{list_all};
 ghost use Rattle.chdr_words.specs.Field.{words_at};
+ghost use Rattle.chdr_packets.specs.Fits.{FitsPacket};
 ghost use Rattle.chdr_packets.specs.Grammar.{Spells, is_plain, payload_plain, start_of, type_time};
 ghost use Rattle.chdr_packets.specs.Refusals.{HasMemory, IsShort, Refuses};
 ghost use Rattle.chdr_packets.specs.Reading.{Gives, IsFaultOf, IsFramed, IsSized, body_read, frame_read, is_canonical_front, is_reserved, packet_read, passed, time_at};
@@ -178,7 +179,8 @@ fn read(alloc: Global, b: &[u8]) -> Result<Option<(Packet, usize)>, PacketFault>
 /// The tests come in the order type, Length, size, payload.
 /// Rule: docs/wire-format.md, "Packets".
 pub fn decode(alloc: Global, b: &[u8]) -> Result<Option<(Packet, usize)>, PacketFault>
-    ensures reads { IfOk result (λ found. IfSome found (λ x. Spells x.0 (take x.1 b.now))) }
+    ensures spells { IfOk result (λ found. IfSome found (λ x. Spells x.0 (take x.1 b.now))) }
+    ensures fits { IfOk result (λ found. IfSome found (λ x. FitsPacket x.0)) }
     ensures accepts { (p : Packet) (n : ℕ) → n ≤ length b.now → Spells p (take n b.now)
         → Gives result (Ok (Some (p, n))) }
     ensures none { HasMemory result → ((result ≡ Ok None) ↔ IsShort b.now) }

@@ -2,15 +2,15 @@
 //!
 //! A stream that has a fault gives the packets before its first one, and then that fault.
 //!
-//! What holds of captures and of every list of calls stands in laws.rt.
+//! What holds of captures and of every list of calls stands in law.rt.
 #![tactic(auto)]
 
 mod decoder;
-mod laws;
+mod law;
 mod placed;
 
 pub use decoder::Decoder;
-pub use laws::{
+pub use law::{
     a_decoder_shows_what_follows, a_stream_stops_at_the_first_fault, any_cut_gives_the_same,
     calls_do_what_clauses_say, captures_show_no_fault, packets_tell_their_places,
     the_fault_is_the_first,

@@ -1,11 +1,15 @@
 use Rattle.std.proofs.Common.{arith}
 use Rattle.chdr_packets.proofs.PacketLemmas.{gives_within, gives_few}
 use Rattle.chdr_packets.proofs.GrammarLemmas.{gives_reads, gives_accepts}
+use Rattle.chdr_packets.proofs.ReadLemmas.{gives_fits}
 use Rattle.chdr_packets.proofs.RefusalLemmas.{short_exactly, refuses_exactly}
 use Rattle.chdr_packets.proofs.decoding.decode.Goals as goal
 
-pub returns-clause-reads : goal.returns-clause-reads
-returns-clause-reads c = gives_reads c.args.b.now c.read.result (λ i. omega (arith, c.type_inv.b i)) c.read.ensures
+pub returns-clause-spells : goal.returns-clause-spells
+returns-clause-spells c = gives_reads c.args.b.now c.read.result (λ i. omega (arith, c.type_inv.b i)) c.read.ensures
+
+pub returns-clause-fits : goal.returns-clause-fits
+returns-clause-fits c = gives_fits c.read.result c.args.b.now (gives_reads c.args.b.now c.read.result (λ i. omega (arith, c.type_inv.b i)) c.read.ensures)
 
 pub returns-clause-accepts : goal.returns-clause-accepts
 returns-clause-accepts c = λ p n le s. gives_accepts c.args.b.now c.read.result p n c.read.ensures le s

@@ -1,6 +1,6 @@
 use Rattle.chdr_stream.proofs.CutLemmas.{keeps_rest, any_cut}
 use Rattle.chdr_stream.proofs.SameLemmas.{same_cut}
-use Rattle.chdr_stream.proofs.laws.any_cut_gives_the_same.Goals as goal
+use Rattle.chdr_stream.proofs.law.any_cut_gives_the_same.Goals as goal
 
 pub returns : goal.returns
 returns c = record { rest = keeps_rest; shown = any_cut; same = same_cut }

@@ -1,5 +1,5 @@
 use Rattle.chdr_stream.proofs.FaultLemmas.{shows_places}
-use Rattle.chdr_stream.proofs.laws.packets_tell_their_places.Goals as goal
+use Rattle.chdr_stream.proofs.law.packets_tell_their_places.Goals as goal
 
 pub returns : goal.returns
 returns c = shows_places

@@ -1,5 +1,5 @@
 use Rattle.chdr_stream.proofs.CutLemmas.{next_calls, pass_tells}
-use Rattle.chdr_stream.proofs.laws.calls_do_what_clauses_say.Goals as goal
+use Rattle.chdr_stream.proofs.law.calls_do_what_clauses_say.Goals as goal
 
 pub returns : goal.returns
 returns c = record { next = next_calls; pass = pass_tells }
