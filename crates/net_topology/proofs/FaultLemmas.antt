@@ -8,7 +8,7 @@ use Rattle.net_topology.specs.declared.plan.Plan.{Plan}
 use Rattle.net_topology.specs.Links.{link_of}
 use Rattle.net_topology.specs.Tree.{IsTree, IsFault, IsSound, SoundBelow, HasGoodNodes, HasPorts, IsPortTwice, IsReached, IsDuplicate, DistinctBelow, epid_at}
 
--- a tree is refused for want of memory alone
+-- a tree is refused only for running out of memory
 pub tree_fault : (plan : Plan) (fault : PlanFault) → IsTree plan → IsFault plan fault → fault ≡ Memory
 tree_fault plan (TooManyNodes count) t h = absurd (omega (arith, t.nodes.few, h.0))
 tree_fault plan (DuplicateEpid epid) t h = absurd (t.nodes.distinct h.1.0 epid h.1.1 h.1.3)
@@ -31,7 +31,7 @@ stage (BadLinkRoom room) = 5
 stage Memory = 0
 
 -- what a refusal tells of the earlier ones
-pub few_nodes : (plan : Plan) (fault : PlanFault) → 1 < stage fault → IsFault plan fault → length plan.nodes ≤ 64
+pub few_nodes : (plan : Plan) (fault : PlanFault) → 1 < stage fault → IsFault plan fault → length plan.nodes ≤ plan.limit
 few_nodes plan (TooManyNodes count) s h = absurd (omega arith)
 few_nodes plan (DuplicateEpid epid) s h = h.0
 few_nodes plan (BadPort k) s h = h.0.few
@@ -140,7 +140,7 @@ same_stage plan (Apart x) (Apart y) z s p q = ap Apart (one_apart plan x y p.3 q
 same_stage plan (BadLinkRoom a) (BadLinkRoom b) z s p q = ap BadLinkRoom (p.4 ∙ sym q.4)
 same_stage plan _ _ z s p q = absurd (omega arith)
 
--- at most one refusal other than want of memory is the first that holds
+-- at most one refusal other than running out of memory is the first that holds
 pub one_fault : (plan : Plan) (f g : PlanFault) → 0 < stage f → 0 < stage g → IsFault plan f → IsFault plan g → f ≡ g
 one_fault plan f g y z p q =
     elim (cases_lt (stage f) (stage g)) [
@@ -151,7 +151,7 @@ one_fault plan f g y z p q =
       ]
     ]
 
--- a refusal other than want of memory has a stage
+-- a refusal other than running out of memory has a stage
 pub staged : (fault : PlanFault) → fault ≢ Memory → 0 < stage fault
 staged (TooManyNodes count) n = omega arith
 staged (DuplicateEpid epid) n = omega arith

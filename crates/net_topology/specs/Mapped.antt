@@ -8,4 +8,4 @@ use Rattle.net_topology.specs.Tree.{IsChecked}
 pub record IsMapped (plan : Plan) (rows : List (List ℕ)) : Type 0 where
   pub checked : IsChecked plan
   pub parts : HasRows plan (length plan.links) rows
-  pub few : length plan.links ≤ 64
+  pub few : length plan.links ≤ 256

@@ -24,14 +24,14 @@ epid_of Adapter = None
 epid_of (Host epid) = Some epid
 epid_of (Endpoint epid bank) = Some epid
 
--- what a caller sees to: an EPID isn't 0, a crossbar has 1 to 32 ports, a bank is below 16
+-- a node that a plan may have: an EPID isn't 0, a crossbar has 1 to 32 ports, a bank is below 16
 abbrev pub FitsNode : NodePlan → Type 0
 FitsNode (Crossbar ports) = (1 ≤ ports) × (ports ≤ 32)
 FitsNode Adapter = Unit {0}
 FitsNode (Host epid) = 0 < epid.0
 FitsNode (Endpoint epid bank) = (0 < epid.0) × IfSome bank (λ number. number < 16)
 
--- how many ports the node of this number has: none where it isn't there
+-- the number of ports of node x: 0 if it isn't there
 abbrev pub port_count : List NodePlan → ℕ → ℕ
 port_count nodes x = option_map_or ports_of (slice_get nodes x) 0
 
@@ -89,9 +89,9 @@ pub record IsSound (plan : Plan) (k : ℕ) : Type 0 where
 abbrev pub SoundBelow : Plan → ℕ → Type 0
 SoundBelow plan k = (j : ℕ) → j < k → IsSound plan j
 
--- few nodes, with EPIDs of their own
+-- no more nodes than the limit, with EPIDs of their own
 pub record HasGoodNodes (plan : Plan) : Type 0 where
-  pub few : length plan.nodes ≤ 64
+  pub few : length plan.nodes ≤ plan.limit
   pub distinct : DistinctBelow plan.nodes (length plan.nodes)
 
 -- the links of the plan join this node to node 0
@@ -105,17 +105,22 @@ pub record IsTree (plan : Plan) : Type 0 where
   pub joined : (x : ℕ) → x < length plan.nodes → IsReached plan x
   pub room : (1 ≤ plan.room) × (plan.room ≤ 64)
 
+-- what a caller sees to: each node fits, and the limit is at most 256
+pub record FitsPlan (plan : Plan) : Type 0 where
+  pub nodes : All FitsNode plan.nodes
+  pub limit : plan.limit ≤ 256
+
 -- what is known of a checked plan
 pub record IsChecked (plan : Plan) : Type 0 where
-  pub fits : All FitsNode plan.nodes
+  pub fits : FitsPlan plan
   pub tree : IsTree plan
 
 -- this is the first refusal that holds, in the order of the cases
 abbrev pub IsFault : Plan → PlanFault → Type 0
 IsFault plan (TooManyNodes count) =
-    (64 < length plan.nodes) × (count ≡ min (length plan.nodes) (2 ^ 32 - 1))
+    (plan.limit < length plan.nodes) × (count ≡ min (length plan.nodes) (2 ^ 32 - 1))
 IsFault plan (DuplicateEpid epid) =
-    (length plan.nodes ≤ 64) × ((x : ℕ) × (x < length plan.nodes) × DistinctBelow plan.nodes x × IsDuplicate plan.nodes x epid)
+    (length plan.nodes ≤ plan.limit) × ((x : ℕ) × (x < length plan.nodes) × DistinctBelow plan.nodes x × IsDuplicate plan.nodes x epid)
 IsFault plan (BadPort k) =
     HasGoodNodes plan × (k < length plan.links) × SoundBelow plan k × (¬ HasPorts plan.nodes (link_of plan.links k))
 IsFault plan (PortTwice k) =
@@ -126,5 +131,5 @@ IsFault plan (Apart x) =
     HasGoodNodes plan × SoundBelow plan (length plan.links) × (x < length plan.nodes) × ((y : ℕ) → y < x → IsReached plan y) × (¬ IsReached plan x)
 IsFault plan (BadLinkRoom room) =
     HasGoodNodes plan × SoundBelow plan (length plan.links) × ((x : ℕ) → x < length plan.nodes → IsReached plan x) × (¬ ((1 ≤ plan.room) × (plan.room ≤ 64))) × (room ≡ plan.room)
--- want of memory has no cause here
+-- running out of memory has no cause here
 IsFault plan Memory = Unit {0}

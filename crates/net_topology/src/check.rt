@@ -8,25 +8,36 @@ use crate::{LinkPlan, NodePlan, Plan};
 use chdr_words::Epid;
 use rf_base::{Items, Memory};
 use std::alloc::{AllocError, Global};
+use thiserror::Error;
 
-/// Why a plan is no tree. Where several hold, the first in this order is answered; of those on
-/// links, the first link's.
-#[derive(Clone, Copy, Debug, PartialEq, Eq)]
+/// Why a plan is no tree. If several hold, it is the first in this order, and of those on links
+/// the first link's.
+///
+/// Rule: docs/control-and-discovery.md, "Trees".
+#[derive(Clone, Copy, Debug, PartialEq, Eq, Error)]
 pub enum PlanFault {
-    /// More than 64 nodes; their number, or 2^32 - 1 where they are more.
+    /// More nodes than the limit; their number, or 2^32 - 1 if they are more.
+    #[error("TooManyNodes {count}")]
     TooManyNodes { count: u32 },
     /// The first node whose EPID an earlier node has.
+    #[error("DuplicateEpid {}", .epid.0)]
     DuplicateEpid { epid: Epid },
     /// A node or a port of this link isn't there.
+    #[error("BadPort {link}")]
     BadPort { link: u16 },
     /// A port of this link is used by an earlier link.
+    #[error("PortTwice {link}")]
     PortTwice { link: u16 },
     /// The nodes of this link are the same, or already joined by earlier links.
+    #[error("Cycle {link}")]
     Cycle { link: u16 },
     /// The first node that isn't joined to node 0.
+    #[error("Apart {node}")]
     Apart { node: u16 },
     /// The room isn't 1 to 64.
+    #[error("BadLinkRoom {room}")]
     BadLinkRoom { room: u32 },
+    #[error("out of memory")]
     Memory,
 }
 
@@ -51,11 +62,11 @@ impl From<Memory> for PlanFault {
 }
 
 fn check_count(plan: &Plan) -> Result<(), PlanFault>
-    ensures ok { OnOk result (length plan.now.nodes ≤ 64) }
+    ensures ok { OnOk result (length plan.now.nodes ≤ plan.now.limit) }
     ensures err { IfErr result (IsFault plan.now) }
 {
     let count = plan.nodes.len();
-    if count > 64 {
+    if count > plan.limit as usize {
         let count = count.min(u32::MAX as usize) as u32;
         return Err(PlanFault::TooManyNodes { count });
     }
@@ -75,7 +86,7 @@ fn has_epid_below(nodes: &[NodePlan], end: usize, epid: Epid) -> bool
     false
 }
 
-/// The EPID of a node, where an earlier node has it.
+/// The EPID of a node, if an earlier node has it.
 fn duplicate_at(plan: &Plan, x: usize) -> Option<Epid>
     requires { x < length plan.now.nodes }
     ensures { MatchOption result
@@ -92,7 +103,7 @@ fn duplicate_at(plan: &Plan, x: usize) -> Option<Epid>
 }
 
 fn check_epids(plan: &Plan) -> Result<(), PlanFault>
-    requires { length plan.now.nodes ≤ 64 }
+    requires { length plan.now.nodes ≤ plan.now.limit }
     ensures ok { OnOk result (DistinctBelow plan.now.nodes (length plan.now.nodes)) }
     ensures err { IfErr result (IsFault plan.now) }
 {
@@ -107,7 +118,7 @@ fn check_epids(plan: &Plan) -> Result<(), PlanFault>
 
 /// Each node in a part of its own.
 fn first_row(alloc: Global, count: usize) -> Result<Items<u16>, Memory>
-    requires { count ≤ 64 }
+    requires { count ≤ 256 }
     ensures wide { IfOk result (λ row. length row ≡ count) }
     ensures names { IfOk result (λ row. (x : ℕ) → x < count → slice_index row x ≡ x) }
 {
@@ -202,9 +213,10 @@ fn check_link(plan: &Plan, k: usize, row: &[u16]) -> Result<(), PlanFault>
     Ok(())
 }
 
-/// Joins the nodes link by link, and answers the parts before the first link and after each.
+/// Joins the nodes link by link, and returns the parts before the first link and after each.
 fn check_links(alloc: Global, plan: &Plan) -> Result<Items<Items<u16>>, PlanFault>
-    requires { HasGoodNodes plan.now }
+    requires limit { plan.now.limit ≤ 256 }
+    requires nodes { HasGoodNodes plan.now }
     ensures ok { IfOk result (λ rows. SoundBelow plan.now (length plan.now.links)
         × HasRows plan.now (length plan.now.links) rows) }
     ensures err { IfErr result (IsFault plan.now) }
@@ -222,6 +234,7 @@ fn check_links(alloc: Global, plan: &Plan) -> Result<Items<Items<u16>>, PlanFaul
 
 /// `row` has the parts that all links of the plan leave.
 fn check_joined(plan: &Plan, row: &[u16]) -> Result<(), PlanFault>
+    requires limit { plan.now.limit ≤ 256 }
     requires nodes { HasGoodNodes plan.now }
     requires sound { SoundBelow plan.now (length plan.now.links) }
     requires row { IsRow plan.now (length plan.now.links) row.now }
@@ -240,6 +253,7 @@ fn check_joined(plan: &Plan, row: &[u16]) -> Result<(), PlanFault>
 
 /// The parts that the links of a tree leave, or the first refusal that holds.
 pub(crate) fn check_tree(alloc: Global, plan: &Plan) -> Result<Items<Items<u16>>, PlanFault>
+    requires { plan.now.limit ≤ 256 }
     ensures ok { IfOk result (λ rows. IsTree plan.now
         × HasRows plan.now (length plan.now.links) rows) }
     ensures err { IfErr result (IsFault plan.now) }

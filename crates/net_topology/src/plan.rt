@@ -1,4 +1,4 @@
-ghost use Rattle.std.specs.Prelude.{◌≡◌, ◌↔◌, IsTrue, All};
+ghost use Rattle.std.specs.Prelude.{◌≡◌, ◌↔◌, IsTrue};
 
 use chdr_words::Epid;
 use rf_base::{Copyable, Items, Memory};
@@ -17,6 +17,7 @@ pub enum NodePlan {
 }
 
 impl NodePlan {
+    ghost use Rattle.net_topology.specs.Leads.{has_table};
     ghost use Rattle.net_topology.specs.Tree.{FitsNode, ports_of, epid_of, has_epid};
 
     /// Whether an EPID isn't 0, a crossbar has 1 to 32 ports, and a bank is below 16.
@@ -43,6 +44,16 @@ impl NodePlan {
             NodePlan::Crossbar { ports } => *ports,
             NodePlan::Adapter => 2,
             NodePlan::Host { .. } | NodePlan::Endpoint { .. } => 1,
+        }
+    }
+
+    /// Whether it passes packets on by a table.
+    pub fn has_table(&self) -> bool
+        ensures { result ≡ has_table self.now }
+    {
+        match self {
+            NodePlan::Crossbar { .. } | NodePlan::Adapter => true,
+            NodePlan::Host { .. } | NodePlan::Endpoint { .. } => false,
         }
     }
 
@@ -122,17 +133,18 @@ pub struct Plan {
     pub links: LinkList,
     /// How many packets each directed link can hold.
     pub room: u32,
+    /// The most nodes that the network may have, at most 256.
+    pub limit: u32,
 }
 
 impl Plan {
-    ghost use Rattle.std.specs.Prelude.{◌↔◌, IsTrue, All};
-    ghost use Rattle.net_topology.specs.Tree.{FitsNode};
+    ghost use Rattle.net_topology.specs.Tree.{FitsPlan};
 
-    /// Whether each node fits: what a check asks for.
+    /// Whether each node fits and the limit is at most 256: what a check asks for.
     pub fn fits(&self) -> bool
-        ensures { IsTrue result ↔ All FitsNode self.now.nodes }
+        ensures { IsTrue result ↔ FitsPlan self.now }
     {
-        self.nodes.as_slice().iter().all(|node| node.fits())
+        self.limit <= 256 && self.nodes.as_slice().iter().all(|node| node.fits())
     }
 }
 
@@ -142,6 +154,7 @@ impl Copyable for Plan {
             nodes: self.nodes.copy()?,
             links: self.links.copy()?,
             room: self.room,
+            limit: self.limit,
         })
     }
 }

@@ -39,6 +39,7 @@ fn plan(alloc: Global, nodes: &[NodePlan], links: &[Ends], room: u32) -> Result<
         nodes: Items::from_vec(Vec::from_slice(alloc, nodes)?),
         links: list,
         room,
+        limit: 64,
     })
 }
 
@@ -78,12 +79,59 @@ fn three_crossbars_in_a_ring_are_no_tree(rt: HostRuntime) -> Result<(), Fail> {
 }
 
 #[test]
-fn an_empty_plan_is_a_tree_where_its_room_is_good(rt: HostRuntime) -> Result<(), Fail> {
+fn an_empty_plan_is_a_tree_if_its_room_is_good(rt: HostRuntime) -> Result<(), Fail> {
     assert_eq!(rt; fault_of(rt.alloc(), &[], &[], 1)?, None);
     assert_eq!(rt; fault_of(rt.alloc(), &[], &[], 64)?, None);
     for room in [0, 65] {
         let fault = fault_of(rt.alloc(), &[], &[], room)?;
         assert_eq!(rt; fault, Some(PlanFault::BadLinkRoom { room }));
+    }
+    Ok(())
+}
+
+/// What is returned for n hosts without links in a network of at most `limit` nodes.
+fn fault_of_hosts(alloc: Global, n: u16, limit: u32) -> Result<Option<PlanFault>, Memory> {
+    let mut plan = plan(alloc, &[], &[], 4)?;
+    plan.limit = limit;
+    for k in 0..n.min(1000) {
+        plan.nodes.push(host(k + 1))?;
+    }
+    Ok(checked(alloc, &plan).err())
+}
+
+#[test]
+fn a_plan_has_no_more_nodes_than_its_limit(rt: HostRuntime) -> Result<(), Fail> {
+    let alloc = rt.alloc();
+    let apart = Some(PlanFault::Apart { node: 1 });
+    for (n, limit, wanted) in [
+        (64, 64, apart),
+        (65, 64, Some(PlanFault::TooManyNodes { count: 65 })),
+        (65, 256, apart),
+        (256, 256, apart),
+        (257, 256, Some(PlanFault::TooManyNodes { count: 257 })),
+        (1, 0, Some(PlanFault::TooManyNodes { count: 1 })),
+    ] {
+        assert_eq!(rt; fault_of_hosts(alloc, n, limit)?, wanted, "{n} of {limit}");
+    }
+    Ok(())
+}
+
+#[test]
+fn a_refusal_says_its_number(rt: HostRuntime) -> Result<(), Fail> {
+    for (fault, text) in [
+        (PlanFault::TooManyNodes { count: 65 }, "TooManyNodes 65"),
+        (
+            PlanFault::DuplicateEpid { epid: Epid(7) },
+            "DuplicateEpid 7",
+        ),
+        (PlanFault::BadPort { link: 3 }, "BadPort 3"),
+        (PlanFault::PortTwice { link: 4 }, "PortTwice 4"),
+        (PlanFault::Cycle { link: 2 }, "Cycle 2"),
+        (PlanFault::Apart { node: 1 }, "Apart 1"),
+        (PlanFault::BadLinkRoom { room: 0 }, "BadLinkRoom 0"),
+        (PlanFault::Memory, "out of memory"),
+    ] {
+        assert_eq!(rt; format!(in rt.alloc(); "{fault}")?.as_str(), text);
     }
     Ok(())
 }
@@ -145,7 +193,7 @@ fn refusal(flaw: Flaw, count: u32) -> PlanFault {
     }
 }
 
-/// What is answered for a plan with these flaws, or with one where they are the same, and what
+/// What is returned for a plan with these flaws, or with one if they are the same, and what
 /// should be.
 fn answers(
     alloc: Global,
@@ -173,7 +221,7 @@ fn each_refusal_comes_alone_and_before_each_later_one(rt: HostRuntime) -> Result
     Ok(())
 }
 
-/// What is answered where one more link stands behind two good ones.
+/// What is returned if one more link stands behind two good ones.
 fn fault_with(alloc: Global, ends: Ends) -> Result<Option<PlanFault>, Memory> {
     let nodes = [host(1), crossbar(8), host(2)];
     fault_of(alloc, &nodes, &[(0, 0, 1, 0), (1, 1, 2, 0), ends], 4)
@@ -266,7 +314,7 @@ fn the_ways_of_a_star_cross_its_middle(rt: HostRuntime) -> Result<(), Fail> {
 }
 
 #[test]
-fn a_port_has_a_neighbour_where_it_has_a_link(rt: HostRuntime) -> Result<(), Fail> {
+fn a_port_has_a_neighbour_if_it_has_a_link(rt: HostRuntime) -> Result<(), Fail> {
     let star = star(rt.alloc()).map_err(|_| Memory)?;
     assert_eq!(rt; star.neighbour(0, 31), Some((32, 0)));
     assert_eq!(rt; star.neighbour(32, 0), Some((0, 31)));
@@ -275,7 +323,7 @@ fn a_port_has_a_neighbour_where_it_has_a_link(rt: HostRuntime) -> Result<(), Fai
 }
 
 #[test]
-fn an_epid_has_a_node_where_one_is_given_it(rt: HostRuntime) -> Result<(), Fail> {
+fn an_epid_has_a_node_if_one_is_given_it(rt: HostRuntime) -> Result<(), Fail> {
     let star = star(rt.alloc()).map_err(|_| Memory)?;
     assert_eq!(rt; star.node_of(Epid(32)), Some(32));
     assert_eq!(rt; star.node_of(Epid(33)), None);

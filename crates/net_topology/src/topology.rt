@@ -1,7 +1,7 @@
-ghost use Rattle.std.specs.Prelude.{◌≡◌, ◌==◌, ◌+◌, ◌*◌, ◌<◌, ◌≤◌, ◌++◌, ℕ, length, All, IfOk, OnOk, IfErr, IfSome};
-ghost use Rattle.net_topology.specs.Links.{IsWay, link_of, link_at, neighbour_at};
+ghost use Rattle.std.specs.Prelude.{◌≡◌, ◌↔◌, ◌==◌, ◌+◌, ◌*◌, ◌<◌, ◌≤◌, ◌++◌, ℕ, IsTrue, length, IfOk, OnOk, IfErr, IfSome};
+ghost use Rattle.net_topology.specs.Links.{IsWay, start_of, end_of, start_port, end_port, link_of, link_at, neighbour_at};
 ghost use Rattle.net_topology.specs.Parts.{part_of, way_over, way_of};
-ghost use Rattle.net_topology.specs.Tree.{FitsNode, IsTree, IsChecked, IsFault, node_with};
+ghost use Rattle.net_topology.specs.Tree.{FitsPlan, IsTree, IsChecked, IsFault, node_with};
 
 use crate::check::check_tree;
 use crate::{LinkNumbers, LinkPlan, NodePlan, Plan, PlanFault};
@@ -35,7 +35,7 @@ impl Topology {
     ///
     /// Rule: docs/control-and-discovery.md, "Trees".
     pub fn check(alloc: Global, plan: &Plan) -> Result<Topology, PlanFault>
-        requires { All FitsNode plan.now.nodes }
+        requires { FitsPlan plan.now }
         ensures tree { IfOk result (λ topology. (topology ≡ plan.now) × IsTree topology) }
         ensures fault { IfErr result (IsFault plan.now) }
     {
@@ -50,6 +50,48 @@ impl Topology {
         ensures tree { IsChecked self.now }
     {
         &self.plan
+    }
+
+    /// Whether there is a node of this number.
+    pub fn has_node(&self, node: u16) -> bool
+        ensures { IsTrue result ↔ node < length self.now.nodes }
+    {
+        (node as usize) < self.plan.nodes.len()
+    }
+
+    /// Whether there is a directed link of this number.
+    pub fn has_link(&self, d: u16) -> bool
+        ensures { IsTrue result ↔ d < 2 * length self.now.links }
+    {
+        ((d / 2) as usize) < self.plan.links.len()
+    }
+
+    /// The node at which directed link d starts, and the port by which it leaves that node.
+    pub fn start_at(&self, d: u16) -> (u16, u8)
+        requires { d < 2 * length self.now.links }
+        ensures value { result ≡ (start_of self.now.links d, start_port self.now.links d) }
+        ensures there { result.0 < length self.now.nodes }
+    {
+        let link = self.link((d / 2) as usize);
+        if d % 2 == 0 {
+            (link.a, link.a_port)
+        } else {
+            (link.b, link.b_port)
+        }
+    }
+
+    /// The node at which directed link d ends, and the port by which it comes to that node.
+    pub fn end_at(&self, d: u16) -> (u16, u8)
+        requires { d < 2 * length self.now.links }
+        ensures value { result ≡ (end_of self.now.links d, end_port self.now.links d) }
+        ensures there { result.0 < length self.now.nodes }
+    {
+        let link = self.link((d / 2) as usize);
+        if d % 2 == 0 {
+            (link.b, link.b_port)
+        } else {
+            (link.a, link.a_port)
+        }
     }
 
     /// The directed links from node a to node b; no node is passed twice.
@@ -70,7 +112,7 @@ impl Topology {
         ensures value { result ≡ link_of self.now.links k }
         ensures a { result.a < length self.now.nodes }
         ensures b { result.b < length self.now.nodes }
-        ensures few { k < 64 }
+        ensures few { k < 256 }
     {
         self.plan.links.as_slice()[k]
     }
@@ -139,12 +181,7 @@ impl Topology {
         ensures { result ≡ neighbour_at self.now.links node port }
     {
         let number = self.link_at(node, port)?;
-        let link = self.plan.links.as_slice()[(number / 2) as usize];
-        if number % 2 == 0 {
-            Some((link.b, link.b_port))
-        } else {
-            Some((link.a, link.a_port))
-        }
+        Some(self.end_at(number))
     }
 
     /// The node that has the EPID.
