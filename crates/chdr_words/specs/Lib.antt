@@ -7,4 +7,5 @@ pub mod Status
 pub mod Command
 pub mod Control
 pub mod Management
+pub mod Operation
 pub mod Reads

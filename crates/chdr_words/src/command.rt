@@ -1,4 +1,4 @@
-ghost use Rattle.std.specs.Prelude.{◌≡◌, ◌<◌, ◌^◌, IfOk};
+ghost use Rattle.std.specs.Prelude.{◌≡◌, ◌↔◌, ◌<◌, ◌^◌, IfOk, IsTrue};
 ghost use Rattle.chdr_words.specs.Command.{FitsCmdOp, FitsCommand, SpellsCommand, cmd_number, cmd_op_of, command_read};
 
 use crate::bytes::{two_words, word_at};
@@ -33,6 +33,27 @@ pub struct Command {
     pub packets: u64,
     /// Bytes: the frequency of INIT, the totals of RESYNC modulo 2^64.
     pub bytes: u64,
+}
+
+impl CmdOp {
+    /// Whether `Other` holds a code without a name.
+    pub fn fits(self) -> bool
+        ensures { IsTrue result ↔ FitsCmdOp self }
+    {
+        match self {
+            CmdOp::Init | CmdOp::Ping | CmdOp::Resync => true,
+            CmdOp::Other(code) => 3 <= code && code < 16,
+        }
+    }
+}
+
+impl Command {
+    /// Whether each field fits its bits.
+    pub fn fits(&self) -> bool
+        ensures { IsTrue result ↔ FitsCommand self.now }
+    {
+        self.op.fits() && self.op_data < 1 << 4 && self.packets < 1 << 40
+    }
 }
 
 fn op_of(number: u8) -> CmdOp

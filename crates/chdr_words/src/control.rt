@@ -1,4 +1,4 @@
-ghost use Rattle.std.specs.Prelude.{◌≡◌, ◌<◌, ◌≤◌, ◌^◌, ◌+◌, ◌*◌, ◌==◌, if◌then◌else◌, take, length, All, IfOk, IfSome, IsTrue};
+ghost use Rattle.std.specs.Prelude.{◌≡◌, ◌↔◌, ◌<◌, ◌≤◌, ◌^◌, ◌+◌, ◌*◌, ◌==◌, if◌then◌else◌, take, length, All, IfOk, IfSome, IsTrue};
 ghost use Rattle.chdr_words.specs.Control.{FitsControl, FitsCtrlOp, SpellsControl, control_bytes, control_head, control_op, control_plain, control_read, control_size, control_sized, told_count, told_time, ctrl_op_number, ctrl_op_of, ctrl_status_number, ctrl_status_of};
 ghost use Rattle.chdr_words.specs.Field.{field, halves_at, word_at};
 ghost use Rattle.chdr_words.specs.Wire.{time_bytes, wire_size_of};
@@ -82,6 +82,40 @@ impl Copyable for Control {
             addr: self.addr,
             words: self.words.copy()?,
         })
+    }
+}
+
+impl CtrlOp {
+    /// Whether `Other` and `User` hold codes of their own.
+    pub fn fits(self) -> bool
+        ensures { IsTrue result ↔ FitsCtrlOp self }
+    {
+        match self {
+            CtrlOp::Sleep
+            | CtrlOp::Write
+            | CtrlOp::Read
+            | CtrlOp::ReadWrite
+            | CtrlOp::BlockWrite
+            | CtrlOp::BlockRead
+            | CtrlOp::Poll => true,
+            CtrlOp::Other(code) => 7 <= code && code < 10,
+            CtrlOp::User(code) => 10 <= code && code < 16,
+        }
+    }
+}
+
+impl Control {
+    /// Whether each field fits its bits.
+    pub fn fits(&self) -> bool
+        ensures { IsTrue result ↔ FitsControl self.now }
+    {
+        self.seq < 1 << 6
+            && self.src_port < 1 << 10
+            && self.dst_port < 1 << 10
+            && self.op.fits()
+            && self.enables < 1 << 4
+            && self.addr < 1 << 20
+            && self.words.len() <= 15
     }
 }
 

@@ -1,4 +1,4 @@
-ghost use Rattle.std.specs.Prelude.{◌≡◌, ◌<◌, ◌^◌};
+ghost use Rattle.std.specs.Prelude.{◌≡◌, ◌↔◌, ◌<◌, ◌^◌, IsTrue};
 ghost use Rattle.chdr_words.specs.Header.{FitsHeader, FitsType, header_of, header_word, type_number, type_of};
 
 use crate::{Epid, Word};
@@ -43,6 +43,23 @@ pub struct Header {
     pub dst: Epid,
 }
 
+impl PktType {
+    /// Whether `Reserved` holds a reserved code.
+    pub fn fits(self) -> bool
+        ensures { IsTrue result ↔ FitsType self }
+    {
+        match self {
+            PktType::Management
+            | PktType::Status
+            | PktType::Command
+            | PktType::Control
+            | PktType::Plain
+            | PktType::Timed => true,
+            PktType::Reserved(code) => code == 3 || code == 5,
+        }
+    }
+}
+
 fn type_of(code: u8) -> PktType
     ensures { result ≡ type_of code }
 {
@@ -75,6 +92,13 @@ fn type_number(pkt_type: PktType) -> u8
 }
 
 impl Header {
+    /// Whether each field fits its bits.
+    pub fn fits(&self) -> bool
+        ensures { IsTrue result ↔ FitsHeader self.now }
+    {
+        self.vc < 1 << 6 && self.pkt_type.fits() && self.num_mdata < 1 << 5
+    }
+
     /// The header that the word spells; every word is one.
     pub fn read(word: Word) -> Header
         ensures { result ≡ header_of word.0 }

@@ -10,6 +10,7 @@ mod header;
 mod lists;
 mod management;
 mod node_info;
+mod operation;
 mod status;
 mod wire;
 mod word;
@@ -28,7 +29,8 @@ pub use management::{
     Management, MgmtOp, decode_management, encode_management, is_management, is_plain_management,
     op_count,
 };
-pub use node_info::{Cfg, NodeInfo};
+pub use node_info::{Cfg, NodeInfo, NodeKind};
+pub use operation::Operation;
 pub use status::{Status, StatusCode, decode_status, encode_status, is_plain_status};
 pub use wire::wire_size;
 pub use word::Word;

@@ -1,4 +1,4 @@
-ghost use Rattle.std.specs.Prelude.{◌≡◌, ◌<◌, ◌≤◌, ◌^◌, ◌+◌, ◌==◌, ◌||◌, if◌then◌else◌, ◌++◌, length, IfOk, OnOk, IsTrue};
+ghost use Rattle.std.specs.Prelude.{◌≡◌, ◌↔◌, ◌<◌, ◌≤◌, ◌^◌, ◌+◌, ◌==◌, ◌||◌, if◌then◌else◌, ◌++◌, length, All, IfOk, OnOk, IsTrue};
 ghost use Rattle.std.specs.List.{sum_by};
 ghost use Rattle.chdr_words.specs.Field.{words_bytes};
 ghost use Rattle.chdr_words.specs.Management.{FitsHop, FitsManagement, FitsOp, SpellsManagement, hop_words, are_hops, hops_of, management_formed, management_plain, management_read, management_words, op_of, op_word, words_of};
@@ -56,6 +56,42 @@ impl Copyable for Management {
             src: self.src,
             hops: self.hops.copy()?,
         })
+    }
+}
+
+impl MgmtOp {
+    /// Whether the payload fits its bits.
+    pub fn fits(self) -> bool
+        ensures { IsTrue result ↔ FitsOp self }
+    {
+        self.payload < 1 << 48
+    }
+}
+
+fn each_op_fits(ops: &[MgmtOp]) -> bool
+    ensures { IsTrue result ↔ All FitsOp ops.now }
+{
+    ops.iter().all(|op| op.fits())
+}
+
+fn fits_hop(hop: &Hop) -> bool
+    ensures { IsTrue result ↔ FitsHop hop.now }
+{
+    1 <= hop.len() && hop.len() <= 256 && each_op_fits(hop.as_slice())
+}
+
+fn each_hop_fits(hops: &[Hop]) -> bool
+    ensures { IsTrue result ↔ All FitsHop hops.now }
+{
+    hops.iter().all(|hop| fits_hop(hop))
+}
+
+impl Management {
+    /// Whether each field fits its bits, and each hop has 1 to 256 operations.
+    pub fn fits(&self) -> bool
+        ensures { IsTrue result ↔ FitsManagement self.now }
+    {
+        self.width < 1 << 3 && self.hops.len() <= 1023 && each_hop_fits(self.hops.as_slice())
     }
 }
 

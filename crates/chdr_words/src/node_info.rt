@@ -1,6 +1,18 @@
-ghost use Rattle.std.specs.Prelude.{◌≡◌, ◌<◌, ◌^◌};
+ghost use Rattle.std.specs.Prelude.{◌≡◌, ◌↔◌, ◌<◌, ◌^◌, IsTrue};
 ghost use Rattle.chdr_words.specs.Cfg.{cfg_of, cfg_payload};
-ghost use Rattle.chdr_words.specs.NodeInfo.{FitsInfo, info_of, info_payload};
+ghost use Rattle.chdr_words.specs.NodeInfo.{FitsInfo, FitsNodeKind, info_of, info_payload, node_kind_number, node_kind_of};
+
+use crate::Word;
+
+/// What kind of node it is; the number is its code on the wire, 0 or 4 to 15 for `Other`.
+#[derive(Clone, Copy, Debug, PartialEq, Eq)]
+pub enum NodeKind {
+    Crossbar,
+    /// A stream endpoint.
+    Endpoint,
+    Transport,
+    Other(u8),
+}
 
 /// What a node tells of itself, in the 48 bits of one operation's payload.
 ///
@@ -13,8 +25,7 @@ ghost use Rattle.chdr_words.specs.NodeInfo.{FitsInfo, info_of, info_payload};
 #[derive(Clone, Copy, Debug, PartialEq, Eq)]
 pub struct NodeInfo {
     pub device: u16,
-    /// 1 a crossbar, 2 a stream endpoint, 3 a transport; below 16.
-    pub kind: u8,
+    pub kind: NodeKind,
     /// Below 1,024.
     pub instance: u16,
     /// What the kind tells besides, below 2^18.
@@ -35,7 +46,51 @@ pub struct Cfg {
     pub value: u32,
 }
 
+impl NodeKind {
+    /// Whether `Other` holds a code without a name.
+    pub fn fits(self) -> bool
+        ensures { IsTrue result ↔ FitsNodeKind self }
+    {
+        match self {
+            NodeKind::Crossbar | NodeKind::Endpoint | NodeKind::Transport => true,
+            NodeKind::Other(code) => code == 0 || 4 <= code && code < 16,
+        }
+    }
+
+    fn of(code: u8) -> NodeKind
+        ensures { result ≡ node_kind_of code }
+    {
+        match code {
+            1 => NodeKind::Crossbar,
+            2 => NodeKind::Endpoint,
+            3 => NodeKind::Transport,
+            0 | 4..=255 => NodeKind::Other(code),
+        }
+    }
+
+    fn number(self) -> u8
+        requires { FitsNodeKind self }
+        ensures number { result ≡ node_kind_number self }
+        ensures below { result < 2 ^ 4 }
+        ensures back { node_kind_of result ≡ self }
+    {
+        match self {
+            NodeKind::Crossbar => 1,
+            NodeKind::Endpoint => 2,
+            NodeKind::Transport => 3,
+            NodeKind::Other(code) => code,
+        }
+    }
+}
+
 impl NodeInfo {
+    /// Whether each field fits its bits.
+    pub fn fits(&self) -> bool
+        ensures { IsTrue result ↔ FitsInfo self.now }
+    {
+        self.extended < 1 << 18 && self.instance < 1 << 10 && self.kind.fits()
+    }
+
     /// The payload that spells this information.
     pub fn pack(&self) -> u64
         requires { FitsInfo self.now }
@@ -45,7 +100,7 @@ impl NodeInfo {
     {
         self.extended as u64 * (1 << 30)
             + self.instance as u64 * (1 << 20)
-            + self.kind as u64 * (1 << 16)
+            + self.kind.number() as u64 * (1 << 16)
             + self.device as u64
     }
 
@@ -53,11 +108,12 @@ impl NodeInfo {
     pub fn unpack(payload: u64) -> NodeInfo
         ensures { result ≡ info_of payload }
     {
+        let word = Word(payload);
         NodeInfo {
-            device: (payload % (1 << 16)) as u16,
-            kind: (payload / (1 << 16) % (1 << 4)) as u8,
-            instance: (payload / (1 << 20) % (1 << 10)) as u16,
-            extended: (payload / (1 << 30) % (1 << 18)) as u32,
+            extended: word.field(47, 30) as u32,
+            instance: word.field(29, 20) as u16,
+            kind: NodeKind::of(word.field(19, 16) as u8),
+            device: word.field(15, 0) as u16,
         }
     }
 }
@@ -76,9 +132,10 @@ impl Cfg {
     pub fn unpack(payload: u64) -> Cfg
         ensures { result ≡ cfg_of payload }
     {
+        let word = Word(payload);
         Cfg {
-            addr: (payload % (1 << 16)) as u16,
-            value: (payload / (1 << 16) % (1 << 32)) as u32,
+            value: word.field(47, 16) as u32,
+            addr: word.field(15, 0) as u16,
         }
     }
 }

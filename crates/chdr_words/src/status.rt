@@ -1,4 +1,4 @@
-ghost use Rattle.std.specs.Prelude.{◌≡◌, ◌<◌, ◌^◌, length, IfOk, IsTrue};
+ghost use Rattle.std.specs.Prelude.{◌≡◌, ◌↔◌, ◌<◌, ◌^◌, length, IfOk, IsTrue};
 ghost use Rattle.chdr_words.specs.Status.{FitsStatus, FitsStatusCode, SpellsStatus, status_code_of, status_number, status_plain, status_read};
 
 use crate::bytes::{four_words, word_at};
@@ -46,6 +46,35 @@ pub struct Status {
     pub info: u64,
     /// Of a receiver's buffer; passed as it is.
     pub buffer: u16,
+}
+
+impl StatusCode {
+    /// Whether `Other` holds a code without a name.
+    pub fn fits(self) -> bool
+        ensures { IsTrue result ↔ FitsStatusCode self }
+    {
+        match self {
+            StatusCode::Okay
+            | StatusCode::CmdErr
+            | StatusCode::SeqErr
+            | StatusCode::DataErr
+            | StatusCode::RtErr => true,
+            StatusCode::Other(code) => 5 <= code && code < 16,
+        }
+    }
+}
+
+impl Status {
+    /// Whether each field fits its bits.
+    pub fn fits(&self) -> bool
+        ensures { IsTrue result ↔ FitsStatus self.now }
+    {
+        self.code.fits()
+            && self.cap_bytes < 1 << 40
+            && self.cap_packets < 1 << 24
+            && self.got_packets < 1 << 40
+            && self.info < 1 << 48
+    }
 }
 
 fn code_of(number: u8) -> StatusCode

@@ -1,7 +1,7 @@
 use crate::{
-    Cfg, CmdOp, Command, Control, CtrlOp, CtrlStatus, Epid, Management, MgmtOp, NodeInfo, Status,
-    StatusCode, Words15, decode_command, decode_control, decode_management, decode_status,
-    encode_command, encode_control, encode_management, encode_status, wire_size,
+    Cfg, CmdOp, Command, Control, CtrlOp, CtrlStatus, Epid, Management, MgmtOp, NodeInfo, NodeKind,
+    Operation, Status, StatusCode, Words15, decode_command, decode_control, decode_management,
+    decode_status, encode_command, encode_control, encode_management, encode_status, wire_size,
 };
 use rf_base::{Copyable, Items};
 use std::test::Fail;
@@ -146,7 +146,7 @@ fn a_management_payload_is_written_and_read(rt: HostRuntime) -> Result<(), Fail>
 fn payloads_of_operations_are_packed_and_unpacked(rt: HostRuntime) {
     let info = NodeInfo {
         device: 1,
-        kind: 1,
+        kind: NodeKind::Crossbar,
         instance: 1,
         extended: 2,
     };
@@ -158,4 +158,7 @@ fn payloads_of_operations_are_packed_and_unpacked(rt: HostRuntime) {
     };
     assert_eq!(rt; cfg.pack(), 0xffff_fffe_0005);
     assert_eq!(rt; Cfg::unpack(0xffff_fffe_0005), cfg);
+    let op = Operation::InfoResp(info).spelled();
+    assert_eq!(rt; (op.code, op.payload), (5, 0x8011_0001));
+    assert_eq!(rt; Operation::of(op), Operation::InfoResp(info));
 }

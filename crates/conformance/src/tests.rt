@@ -6,7 +6,7 @@ use chdr_packets::{Body, Packet, PacketFault, decode, encode, fits};
 use chdr_stream::{Decoder, FinishFault};
 use chdr_words::{
     CmdOp, Command, Control, CtrlOp, CtrlStatus, Epid, Management, MgmtOp, MsgFault, NodeInfo,
-    Status, StatusCode, Words15, encode_management, encode_status,
+    NodeKind, Status, StatusCode, Words15, encode_management, encode_status,
 };
 use rf_base::Items;
 use std::alloc::Global;
@@ -150,7 +150,7 @@ fn a_resync_is_read_and_written(rt: HostRuntime) -> Result<(), Fail> {
 fn an_information_response_is_written(rt: HostRuntime) -> Result<(), Fail> {
     let info = NodeInfo {
         device: 1,
-        kind: 1,
+        kind: NodeKind::Crossbar,
         instance: 1,
         extended: 2,
     };

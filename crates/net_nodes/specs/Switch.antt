@@ -1,5 +1,7 @@
 -- Crossbars, adapters and end nodes as sites.
 use Rattle.std.specs.Prelude.{◌≡◌, ℕ, ◌+◌, ◌*◌, ◌<◌, ◌≤◌}
+use Rattle.chdr_words.specs.declared.node_info.NodeKind.{NodeKind}
+use Rattle.chdr_words.specs.declared.node_info.NodeKind.TheVariants as kinds
 use Rattle.net_nodes.specs.declared.end_node.EndNode.{EndNode}
 use Rattle.net_nodes.specs.declared.site.Site.{Site}
 use Rattle.net_nodes.specs.declared.switch.Switch.{Switch}
@@ -16,7 +18,7 @@ pub record FitsAdapter (switch : Switch) : Type 0 where
   pub two : switch.ports ≡ 2
 
 -- a crossbar or an adapter, by its kind, at which a packet came by a port
-abbrev pub switch_site : ℕ → Switch → ℕ → Site
+abbrev pub switch_site : NodeKind → Switch → ℕ → Site
 switch_site kind switch arrival = record {
   info = record { device = 1; kind = kind; instance = switch.instance; extended = switch.ports + 256 * arrival };
   ports = switch.ports;
@@ -24,18 +26,18 @@ switch_site kind switch arrival = record {
   arrival = arrival;
 }
 
--- a crossbar is of kind 1
+-- a crossbar
 abbrev pub crossbar_site : Switch → ℕ → Site
-crossbar_site switch arrival = switch_site 1 switch arrival
+crossbar_site switch arrival = switch_site kinds.Crossbar switch arrival
 
--- an adapter is a transport, of kind 3
+-- an adapter is a transport
 abbrev pub adapter_site : Switch → ℕ → Site
-adapter_site switch arrival = switch_site 3 switch arrival
+adapter_site switch arrival = switch_site kinds.Transport switch arrival
 
--- a host or an endpoint is a stream endpoint, of kind 2, which can send a packet on by no port
+-- a host or an endpoint is a stream endpoint, which can send a packet on by no port
 abbrev pub end_site : EndNode → Site
 end_site node = record {
-  info = record { device = 1; kind = 2; instance = node.instance; extended = node.epid.0 };
+  info = record { device = 1; kind = kinds.Endpoint; instance = node.instance; extended = node.epid.0 };
   ports = 0;
   linked = 0;
   arrival = 0;

@@ -5,7 +5,7 @@ ghost use Rattle.net_nodes.specs.Switch.{crossbar_site};
 ghost use Rattle.net_nodes.specs.Table.{no_exit, exit_of, with_exit};
 
 use crate::{Done, Room, Switch};
-use chdr_words::{Epid, EpidList, Management};
+use chdr_words::{Epid, EpidList, Management, NodeKind};
 use rf_base::Memory;
 use std::alloc::Global;
 use std::marker::Model;
@@ -79,6 +79,6 @@ impl Crossbar {
         ensures kept { self.new ≡ record self.old { table = self.new.table } }
         ensures packet { m.new ≡ without_first m.old (last_hop m.new) }
     {
-        self.switch.perform(1, m, port_in, room)
+        self.switch.perform(NodeKind::Crossbar, m, port_in, room)
     }
 }

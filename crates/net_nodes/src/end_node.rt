@@ -6,7 +6,7 @@ ghost use Rattle.net_nodes.specs.Switch.{end_site};
 
 use crate::hop::perform_hop;
 use crate::{Done, Room, Site, Table};
-use chdr_words::{Epid, Management, NodeInfo};
+use chdr_words::{Epid, Management, NodeInfo, NodeKind};
 
 /// A host or an endpoint, which has one port and no table.
 #[derive(Clone, Copy, Debug, PartialEq, Eq)]
@@ -40,7 +40,7 @@ impl EndNode {
         Site {
             info: NodeInfo {
                 device: 1,
-                kind: 2,
+                kind: NodeKind::Endpoint,
                 instance: self.instance,
                 extended: self.epid.0 as u32,
             },

@@ -1,5 +1,5 @@
 ghost use Rattle.std.specs.Prelude.{◌≡◌, ◌+◌, ◌≤◌, ◌<◌, ◌^◌, map, length, IfOk};
-ghost use Rattle.chdr_words.specs.NodeInfo.{FitsInfo};
+ghost use Rattle.chdr_words.specs.NodeInfo.{FitsInfo, FitsNodeKind};
 ghost use Rattle.net_nodes.specs.Operations.{asked_in};
 ghost use Rattle.net_nodes.specs.Perform.{first_hop, last_hop, performed, without_first, work_of};
 ghost use Rattle.net_nodes.specs.Switch.{switch_site};
@@ -7,7 +7,7 @@ ghost use Rattle.net_nodes.specs.Table.{no_exit};
 
 use crate::hop::perform_hop;
 use crate::{Done, Room, Site, Table};
-use chdr_words::{EpidList, Management, NodeInfo};
+use chdr_words::{EpidList, Management, NodeInfo, NodeKind};
 use rf_base::Memory;
 use std::alloc::Global;
 
@@ -49,8 +49,14 @@ impl Switch {
     }
 
     /// Performs the first hop of a packet that came by a port to a node of this kind.
-    pub(crate) fn perform(&mut self, kind: u8, m: &mut Management, port_in: u8, room: Room) -> Done
-        requires kind { kind < 16 }
+    pub(crate) fn perform(
+        &mut self,
+        kind: NodeKind,
+        m: &mut Management,
+        port_in: u8,
+        room: Room,
+    ) -> Done
+        requires kind { FitsNodeKind kind }
         requires instance { self.old.instance < 1024 }
         requires ports { self.old.ports ≤ 32 }
         requires port { port_in < self.old.ports }
@@ -65,8 +71,8 @@ impl Switch {
         perform_hop(&site, &mut self.table, m, room)
     }
 
-    fn site(&self, kind: u8, arrival: u8) -> Site
-        requires kind { kind < 16 }
+    fn site(&self, kind: NodeKind, arrival: u8) -> Site
+        requires kind { FitsNodeKind kind }
         requires instance { self.now.instance < 1024 }
         requires ports { self.now.ports ≤ 32 }
         requires port { arrival < self.now.ports }
