@@ -1,0 +1,16 @@
+//! The machine of a whole network, as definitions: its state, what may happen, and what that does.
+//!
+//! docs/machine.md tells it in prose.
+#![tactic(auto)]
+
+mod event;
+mod law;
+mod plan;
+mod seed;
+mod tally;
+
+pub use event::{Event, Journal};
+pub use law::{a_place_that_is_not_there_is_blank, queues_are_numbered};
+pub use plan::{BlockPlan, BlockPlans, RunPlan, StreamPlan, StreamPlans};
+pub use seed::Seed;
+pub use tally::{Ends, StreamEnd, Tallies, Tally};
