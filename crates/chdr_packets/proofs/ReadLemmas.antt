@@ -1,7 +1,8 @@
 -- What is read is spelled and fits, stands whatever follows, and stops at the first failing test.
-use Rattle.std.proofs.Common.{Bool, true, false, cond, ltb, ◌≡◌, ℕ, List, length, take, drop, Option, None, Some, Result, Ok, Err, refl, sym, ap, subst, ◌∙◌}
-use Rattle.std.specs.Prelude.{IfSome, IfOk, IsTrue, slice_range}
+use Rattle.std.proofs.Common.{Bool, true, false, cond, ltb, ◌≡◌, ℕ, List, length, take, drop, Option, None, Some, Result, Ok, Err, refl, sym, ap, subst, ◌∙◌, ◌<◌, ◌≤◌}
+use Rattle.std.specs.Prelude.{◌↔◌, IfSome, IfOk, IsTrue, slice_range}
 use Rattle.std.proofs.lemmas.List.{take-append-drop}
+use Rattle.std.proofs.lemmas.List.Elements.{All-from_get_or}
 use Rattle.chdr_words.specs.Field.{word_at}
 use Rattle.chdr_words.specs.Header.{header_of}
 use Rattle.chdr_words.specs.Wire.{wire_size_of}
@@ -13,16 +14,18 @@ use Rattle.chdr_words.specs.declared.fault.MsgFault.{MsgFault}
 use Rattle.chdr_words.specs.declared.header.Header.{Header}
 use Rattle.chdr_words.specs.declared.header.PktType.{PktType}
 use Rattle.chdr_words.specs.declared.header.PktType.TheVariants as types
+use Rattle.chdr_words.proofs.ManagementReading.{IsBytes as SmallBytes}
 use Rattle.chdr_packets.specs.Fits.{FitsPacket}
-use Rattle.chdr_packets.specs.Grammar.{Spells, is_plain, start_of}
-use Rattle.chdr_packets.specs.Reading.{Gives, is_reserved, as_body, time_at, body_read, packed, opened, frame_read, packet_read}
-use Rattle.chdr_packets.specs.Laws.{FaultStands, NoMemory, NoneExactly, ReadMarked, ReadSpelled, ReadStands, ReadWithin, RefusedExactly}
+use Rattle.chdr_packets.specs.Grammar.{IsCanon, Spells, is_plain, start_of}
+use Rattle.chdr_packets.specs.Reading.{Gives, is_reserved, as_body, time_at, body_read, marked, packed, opened, frame_read, packet_read}
+use Rattle.chdr_packets.specs.Laws.{IsBytes, FaultStands, NoMemory, NoneExactly, ReadMarked, ReadSpelled, ReadStands, ReadWithin, RefusedExactly}
 use Rattle.chdr_packets.specs.declared.fault.PacketFault.{PacketFault}
 use Rattle.chdr_packets.specs.declared.fault.PacketFault.TheVariants.{ReservedType, BadLength, Message, Memory}
 use Rattle.chdr_packets.specs.declared.packet.Packet.{Packet}
+use Rattle.chdr_packets.specs.declared.packet.Front.{Front}
 use Rattle.chdr_packets.specs.declared.packet.Body.{Body}
 use Rattle.chdr_packets.specs.declared.packet.Body.TheVariants as bodies
-use Rattle.chdr_packets.proofs.PacketLemmas.{found, read-take, read_more, plain_more, fails_more}
+use Rattle.chdr_packets.proofs.PacketLemmas.{found, read-take, read_more, plain_more, fails_more, none_few}
 use Rattle.chdr_packets.proofs.GrammarLemmas.{read_spells}
 use Rattle.chdr_packets.proofs.LawLemmas.{small_bytes, spelled_fits}
 use Rattle.chdr_packets.proofs.RefusalLemmas.{short_exactly, refuses_exactly}
@@ -54,6 +57,52 @@ pub gives_fits : (r : Result (Option (Packet × ℕ)) PacketFault) (b : List ℕ
 gives_fits (Ok None) b s = tt
 gives_fits (Ok (Some x)) b s = spelled_fits x.0 (take x.1 b) s
 gives_fits (Err fault) b s = tt
+
+-- ---- the packet at the front with its size and mark
+
+all_bytes : (b : List ℕ) → SmallBytes b → IsBytes b
+all_bytes b small = All-from_get_or (λ (byte : ℕ). byte < 256) b 0 (λ i lt. small i)
+
+pub record FrontIs (b : List ℕ) (x : Front) : Type 0 where
+  pub within : (x.size ≤ length b) × (8 ≤ x.size)
+  pub spells : Spells x.packet (take x.size b)
+  pub marks : IsTrue x.canonical ↔ IsCanon x.packet (take x.size b)
+  pub fits : FitsPacket x.packet
+
+front_parts : (b : List ℕ) (r : Result (Option (Packet × ℕ)) PacketFault) (x : Front) → marked b r ≡ Ok (Some x) → (r ≡ found x.packet x.size) × (is_plain b ≡ x.canonical)
+front_parts b (Ok None) x e = absurd cc
+front_parts b (Ok (Some y)) x e =
+    let same : record { packet = y.0; size = y.1; canonical = is_plain b } ≡ x = cc in
+    (ap (λ (f : Front). found f.packet f.size) same, ap (λ (f : Front). f.canonical) same)
+front_parts b (Err fault) x e = absurd cc
+
+front_is : (b : List ℕ) (x : Front) → SmallBytes b → marked b (packet_read b) ≡ Ok (Some x) → FrontIs b x
+front_is b x small e =
+    let parts = front_parts b (packet_read b) x e in
+    let all = all_bytes b small in
+    let spelled = read_spelled b x.packet x.size all parts.0 in
+    record {
+      within = read_within b x.packet x.size parts.0;
+      spells = spelled.0;
+      marks = subst (λ (c : Bool). IsTrue c ↔ IsCanon x.packet (take x.size b)) parts.1 (read_marked b x.packet x.size all parts.0);
+      fits = spelled.1;
+    }
+
+-- what holds of a packet found at the front holds of what a call gave
+pub gives_front : (P : Front → Type 0) (b : List ℕ) (r : Result (Option Front) PacketFault) → ((x : Front) → FrontIs b x → P x) → SmallBytes b → Gives r (marked b (packet_read b)) → IfOk r (λ found. IfSome found P)
+gives_front P b (Ok None) holds small g = tt
+gives_front P b (Ok (Some x)) holds small g = holds x (front_is b x small g)
+gives_front P b (Err fault) holds small g = tt
+
+none_marked : (b : List ℕ) (r : Result (Option (Packet × ℕ)) PacketFault) → marked b r ≡ Ok None → r ≡ Ok None
+none_marked b (Ok None) e = refl
+none_marked b (Ok (Some y)) e = absurd cc
+none_marked b (Err fault) e = absurd cc
+
+pub front_few : (b : List ℕ) (r : Result (Option Front) PacketFault) → Gives r (marked b (packet_read b)) → r ≡ Ok None → length b < 65536
+front_few b (Ok None) g none = none_few b (none_marked b (packet_read b) g)
+front_few b (Ok (Some x)) g none = absurd cc
+front_few b (Err fault) g none = absurd cc
 
 -- ---- reading never runs out of memory
 

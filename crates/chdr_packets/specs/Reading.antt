@@ -14,6 +14,7 @@ use Rattle.chdr_words.specs.declared.header.PktType.TheVariants as types
 use Rattle.chdr_packets.specs.declared.fault.PacketFault.{PacketFault}
 use Rattle.chdr_packets.specs.declared.fault.PacketFault.TheVariants.{ReservedType, BadLength, Message, Memory}
 use Rattle.chdr_packets.specs.declared.packet.Packet.{Packet}
+use Rattle.chdr_packets.specs.declared.packet.Front.{Front}
 use Rattle.chdr_packets.specs.declared.packet.Body.{Body}
 use Rattle.chdr_packets.specs.declared.packet.Body.TheVariants.{Samples, Status, Command, Control, Management}
 use Rattle.chdr_packets.specs.Grammar.{start_of, type_time, is_plain}
@@ -97,6 +98,12 @@ opened bytes (Err fault) = Err fault
 -- the packet at the front and its size; nothing yet where it isn't whole; or the first fault
 unfoldable pub packet_read : List ℕ → Result (Option (Packet × ℕ)) PacketFault
 packet_read bytes = opened bytes (frame_read bytes)
+
+-- a packet that was read, with its size and whether its bytes are canonical
+abbrev pub marked : List ℕ → Result (Option (Packet × ℕ)) PacketFault → Result (Option Front) PacketFault
+marked bytes (Ok None) = Ok None
+marked bytes (Ok (Some found)) = Ok (Some (record { packet = found.0; size = found.1; canonical = is_plain bytes }))
+marked bytes (Err fault) = Err fault
 
 -- of a packet that was read only its size and whether its bytes are canonical
 abbrev pub passed : List ℕ → Result (Option (Packet × ℕ)) PacketFault → Result (Option (ℕ × Bool)) PacketFault

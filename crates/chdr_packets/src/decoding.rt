@@ -1,14 +1,14 @@
 //! The packet at the front of bytes.
-ghost use Rattle.std.specs.Prelude.{◌≡◌, ◌↔◌, ◌+◌, ◌*◌, ◌≤◌, ◌==◌, ◌<◌, length, Some, None, Ok, IfOk, IfSome, take, ℕ, IfNone, Option};
+ghost use Rattle.std.specs.Prelude.{◌≡◌, ◌↔◌, ◌+◌, ◌*◌, ◌≤◌, ◌==◌, ◌<◌, ◌&&◌, length, Some, None, Ok, IsOk, IsTrue, IfOk, IfSome, take, ℕ, IfNone, Option};
 ghost use Rattle.std.specs.List.{list_all};
 ghost use Rattle.chdr_words.specs.Field.{words_at};
 ghost use Rattle.chdr_packets.specs.Fits.{FitsPacket};
-ghost use Rattle.chdr_packets.specs.Grammar.{Spells, is_plain, payload_plain, start_of, type_time};
+ghost use Rattle.chdr_packets.specs.Grammar.{IsCanon, Spells, is_plain, payload_plain, start_of, type_time};
 ghost use Rattle.chdr_packets.specs.Refusals.{HasMemory, IsShort, Refuses};
-ghost use Rattle.chdr_packets.specs.Reading.{Gives, IsFaultOf, IsFramed, IsSized, body_read, frame_read, is_canonical_front, is_reserved, packet_read, passed, time_at};
+ghost use Rattle.chdr_packets.specs.Reading.{Gives, IsFaultOf, IsFramed, IsSized, body_read, frame_read, is_canonical_front, is_reserved, marked, packet_read, passed, time_at};
 
 use crate::fault::PacketFault;
-use crate::packet::{Body, Packet};
+use crate::packet::{Body, Front, Packet};
 use chdr_words::{
     Bytes, Header, MsgFault, PktType, Word, WordList, decode_command, decode_control,
     decode_management, decode_status, is_control, is_management, is_plain_control,
@@ -121,7 +121,8 @@ fn body_of(
     time: Option<u64>,
     payload: &[u8],
 ) -> Result<Body, PacketFault>
-    ensures { Gives result (body_read pkt_type time payload.now) }
+    ensures reads { Gives result (body_read pkt_type time payload.now) }
+    ensures sized { IsOk result → IsSized pkt_type payload.now }
 {
     match pkt_type {
         PktType::Management => management_of(alloc, payload),
@@ -143,53 +144,6 @@ fn body_of(
         }),
         PktType::Reserved(_) => Err(PacketFault::ReservedType),
     }
-}
-
-#[tactic(auto, unfolding(crate::specs::Reading::packet_read))]
-fn read(alloc: Global, b: &[u8]) -> Result<Option<(Packet, usize)>, PacketFault>
-    ensures { Gives result (packet_read b.now) }
-{
-    let header = match frame(b)? {
-        None => return Ok(None),
-        Some(header) => header,
-    };
-    let time = time_of(header.pkt_type, b);
-    let payload = &b[start_of(&header)..header.length as usize];
-    let body = body_of(alloc, header.pkt_type, time, payload)?;
-    let mdata = mdata_of(
-        alloc,
-        b,
-        8 + type_time(header.pkt_type),
-        header.num_mdata as usize,
-    )?;
-    let packet = Packet {
-        vc: header.vc,
-        eob: header.eob,
-        eov: header.eov,
-        seq: header.seq,
-        dst: header.dst,
-        mdata,
-        body,
-    };
-    Ok(Some((packet, wire_size(header.length) as usize)))
-}
-
-/// The packet at the front of the bytes and its size, or `None` where it isn't there whole yet.
-///
-/// The tests come in the order type, Length, size, payload.
-/// Rule: docs/wire-format.md, "Packets".
-pub fn decode(alloc: Global, b: &[u8]) -> Result<Option<(Packet, usize)>, PacketFault>
-    ensures spells { IfOk result (λ found. IfSome found (λ x. Spells x.0 (take x.1 b.now))) }
-    ensures fits { IfOk result (λ found. IfSome found (λ x. FitsPacket x.0)) }
-    ensures accepts { (p : Packet) (n : ℕ) → n ≤ length b.now → Spells p (take n b.now)
-        → Gives result (Ok (Some (p, n))) }
-    ensures none { HasMemory result → ((result ≡ Ok None) ↔ IsShort b.now) }
-    ensures refuses { HasMemory result → Refuses result b.now }
-    ensures exact { Gives result (packet_read b.now) }
-    ensures within { IfOk result (λ found. IfSome found (λ x. (x.1 ≤ length b.now) × (8 ≤ x.1))) }
-    ensures few { result ≡ Ok None → length b.now < 65536 }
-{
-    read(alloc, b)
 }
 
 fn is_zero(bytes: &[u8]) -> bool
@@ -225,6 +179,7 @@ fn payload_fault(pkt_type: PktType, payload: &[u8]) -> Option<PacketFault>
     }
 }
 
+/// Whether reserved bits are zero, and a control payload has its rounded size.
 fn is_plain_payload(pkt_type: PktType, payload: &[u8]) -> bool
     requires { IsSized pkt_type payload.now }
     ensures { result ≡ payload_plain pkt_type payload.now }
@@ -235,6 +190,92 @@ fn is_plain_payload(pkt_type: PktType, payload: &[u8]) -> bool
         PktType::Control => is_plain_control(payload),
         PktType::Command | PktType::Plain | PktType::Timed | PktType::Reserved(_) => true,
     }
+}
+
+#[tactic(auto, unfolding(crate::specs::Reading::packet_read))]
+fn read(alloc: Global, b: &[u8]) -> Result<Option<Front>, PacketFault>
+    ensures { Gives result (marked b.now (packet_read b.now)) }
+{
+    let header = match frame(b)? {
+        None => return Ok(None),
+        Some(header) => header,
+    };
+    let size = wire_size(header.length) as usize;
+    let time = time_of(header.pkt_type, b);
+    let payload = &b[start_of(&header)..header.length as usize];
+    let body = body_of(alloc, header.pkt_type, time, payload)?;
+    let mdata = mdata_of(
+        alloc,
+        b,
+        8 + type_time(header.pkt_type),
+        header.num_mdata as usize,
+    )?;
+    let packet = Packet {
+        vc: header.vc,
+        eob: header.eob,
+        eov: header.eov,
+        seq: header.seq,
+        dst: header.dst,
+        mdata,
+        body,
+    };
+    let pad = &b[header.length as usize..size];
+    Ok(Some(Front {
+        packet,
+        size,
+        canonical: is_plain(header.pkt_type, payload, pad),
+    }))
+}
+
+/// The packet at the front of the bytes, or `None` if it isn't there whole yet.
+///
+/// The tests come in the order type, Length, size, payload, and each is made once.
+/// Rule: docs/wire-format.md, "Packets".
+pub fn read_front(alloc: Global, b: &[u8]) -> Result<Option<Front>, PacketFault>
+    ensures exact { Gives result (marked b.now (packet_read b.now)) }
+    ensures spells { IfOk result (λ found. IfSome found (λ x. Spells x.packet (take x.size b.now))) }
+    ensures marks { IfOk result (λ found. IfSome found (λ x.
+        IsTrue x.canonical ↔ IsCanon x.packet (take x.size b.now))) }
+    ensures fits { IfOk result (λ found. IfSome found (λ x. FitsPacket x.packet)) }
+    ensures within { IfOk result (λ found. IfSome found (λ x.
+        (x.size ≤ length b.now) × (8 ≤ x.size))) }
+    ensures few { result ≡ Ok None → length b.now < 65536 }
+{
+    read(alloc, b)
+}
+
+fn read_sized(alloc: Global, b: &[u8]) -> Result<Option<(Packet, usize)>, PacketFault>
+    ensures { Gives result (packet_read b.now) }
+{
+    match read(alloc, b) {
+        Ok(None) => Ok(None),
+        Ok(Some(front)) => Ok(Some((front.packet, front.size))),
+        Err(fault) => Err(fault),
+    }
+}
+
+/// The packet at the front of the bytes and its size, as `read_front`.
+pub fn decode(alloc: Global, b: &[u8]) -> Result<Option<(Packet, usize)>, PacketFault>
+    ensures spells { IfOk result (λ found. IfSome found (λ x. Spells x.0 (take x.1 b.now))) }
+    ensures fits { IfOk result (λ found. IfSome found (λ x. FitsPacket x.0)) }
+    ensures accepts { (p : Packet) (n : ℕ) → n ≤ length b.now → Spells p (take n b.now)
+        → Gives result (Ok (Some (p, n))) }
+    ensures none { HasMemory result → ((result ≡ Ok None) ↔ IsShort b.now) }
+    ensures refuses { HasMemory result → Refuses result b.now }
+    ensures exact { Gives result (packet_read b.now) }
+    ensures within { IfOk result (λ found. IfSome found (λ x. (x.1 ≤ length b.now) × (8 ≤ x.1))) }
+    ensures few { result ≡ Ok None → length b.now < 65536 }
+{
+    read_sized(alloc, b)
+}
+
+/// Whether the payload is canonical, and the pad bytes are zero.
+fn is_plain(pkt_type: PktType, payload: &[u8], pad: &[u8]) -> bool
+    requires { IsSized pkt_type payload.now }
+    ensures { result ≡
+        (payload_plain pkt_type payload.now && list_all (λ byte. byte == 0) pad.now) }
+{
+    is_plain_payload(pkt_type, payload) && is_zero(pad)
 }
 
 #[tactic(auto, unfolding(crate::specs::Reading::packet_read))]
@@ -250,9 +291,8 @@ fn scan(b: &[u8]) -> Result<Option<(usize, bool)>, PacketFault>
     if let Some(fault) = payload_fault(header.pkt_type, payload) {
         return Err(fault);
     }
-    let plain = is_plain_payload(header.pkt_type, payload)
-        && is_zero(&b[header.length as usize..size]);
-    Ok(Some((size, plain)))
+    let pad = &b[header.length as usize..size];
+    Ok(Some((size, is_plain(header.pkt_type, payload, pad))))
 }
 
 /// What `decode` finds, of which only the size and whether the bytes are canonical.

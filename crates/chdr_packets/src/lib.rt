@@ -9,7 +9,7 @@ mod law;
 mod length;
 mod packet;
 
-pub use decoding::{decode, is_canonical, pass};
+pub use decoding::{decode, is_canonical, pass, read_front};
 pub use encoding::encode;
 pub use fault::PacketFault;
 pub use fitting::fits;
@@ -18,7 +18,7 @@ pub use law::{
     reading_tells_the_first_failing_test, spelled_packets_fit, spellings_are_read_back,
     what_follows_changes_nothing, what_is_read_is_spelled,
 };
-pub use packet::{Body, Packet, PacketList};
+pub use packet::{Body, Front, Packet, PacketList};
 
 #[cfg(test)]
 mod tests;

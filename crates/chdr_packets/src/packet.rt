@@ -29,6 +29,16 @@ pub struct Packet {
     pub body: Body,
 }
 
+/// The packet at the front of bytes.
+#[derive(Debug, Drop, PartialEq, Eq)]
+pub struct Front {
+    pub packet: Packet,
+    /// The bytes that it takes: its Length rounded up to words.
+    pub size: usize,
+    /// Whether these are its canonical spelling.
+    pub canonical: bool,
+}
+
 pub type PacketList = Items<Packet>;
 
 impl Copyable for Body {
