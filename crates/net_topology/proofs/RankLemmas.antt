@@ -124,6 +124,13 @@ module _ (links : List LinkPlan) (forest : Forest links (length links)) where
       let longer = way_before links (length links) d e x rest.0 forest h m.starts m.onward from_end in
       ap (begins_with d) (sym (way_is links (length links) (start_of links d) x (d ∷ e ∷ rest.0) forest longer)) ∙ eq-eqb d d refl
 
+-- a test counts each number below the bound at most once
+pub count_below-most : (p : ℕ → Bool) (n : ℕ) → count_below p n ≤ n
+count_below-most p zero = omega arith
+count_below-most p (suc n) =
+    let h = count_below-most p n in
+    elim (p n) as (λ b. count_below p n + cond b 1 0 ≤ suc n) [ true ↦ omega (arith, h) | false ↦ omega (arith, h) ]
+
 -- one more number counted
 pub count_step : (s t : Bool) (m n : ℕ) → (s ≡ true → t ≡ true) → m ≤ n → m + cond s 1 0 ≤ n + cond t 1 0
 count_step false false m n h l = omega arith

@@ -1,5 +1,5 @@
--- Tables that have the next link of each way lead everywhere.
-use Rattle.std.proofs.Common.{◌≡◌, ◌≢◌, ◌==◌, ℕ, ◌*◌, ◌<◌, true, false, List, [], ◌∷◌, length, Option, Some, None, slice_get, get_or, inl, inr, sym, ◌∙◌, refl, ap, subst, arith}
+-- What an entry leads to: the ports of directed links, and the nodes with tables between them.
+use Rattle.std.proofs.Common.{◌≡◌, ◌≢◌, ◌==◌, ℕ, ◌*◌, ◌<◌, true, false, length, Option, Some, None, slice_get, get_or, inl, inr, sym, ◌∙◌, refl, ap, subst, arith}
 use Rattle.std.specs.Option.{option_and_then, option_map_or}
 use Rattle.std.proofs.lemmas.Bool.{false≢true, ne_eqb}
 use Rattle.std.proofs.lemmas.List.Quantifiers.{position-Some}
@@ -8,16 +8,13 @@ use Rattle.chdr_words.specs.declared.epid.Epid.{Epid}
 use Rattle.net_topology.specs.declared.plan.NodePlan.{NodePlan}
 use Rattle.net_topology.specs.declared.plan.NodePlan.TheVariants.{Crossbar, Adapter, Host, Endpoint}
 use Rattle.net_topology.specs.declared.plan.Plan.{Plan}
-use Rattle.net_topology.specs.Leads.{Exits, HasTable, IsRouted, has_table, turned_to, sent_on, LeadsOver, Leads}
-use Rattle.net_topology.specs.Links.{link_of, back_of, start_of, end_of, start_port, end_port, IsWay, link_at}
-use Rattle.net_topology.specs.Parts.{way_of}
+use Rattle.net_topology.specs.Leads.{Exits, HasTable, has_table, turned_to, sent_on}
+use Rattle.net_topology.specs.Links.{link_of, back_of, start_of, end_of, start_port, end_port, link_at}
 use Rattle.net_topology.specs.Ranks.{MayFollow}
 use Rattle.net_topology.specs.Tree.{IsTree, ports_of, port_count, has_epid, node_with, HasPorts}
 use Rattle.net_topology.proofs.WalkLemmas.{start_of-even, start_of-odd}
 use Rattle.net_topology.proofs.RankLemmas.{parity, start_of-back, back_below}
-use Rattle.net_topology.proofs.LawLemmas.{only_way}
-use Rattle.net_topology.proofs.CheckLemmas.{way_of_is_way}
-use Rattle.net_topology.proofs.PortLemmas.{LeavesBy, start_port-even, start_port-odd, start_port-back, one_leaves, link_at-start, way_goes_on, choose_true, choose_false}
+use Rattle.net_topology.proofs.PortLemmas.{LeavesBy, start_port-even, start_port-odd, start_port-back, one_leaves, link_at-start, choose_true, choose_false}
 
 -- a node with more than one port has a table
 pub table_of_ports : (node : NodePlan) → 1 < ports_of node → has_table node ≡ true
@@ -59,6 +56,12 @@ module _ (plan : Plan) (tree : IsTree plan) where
             subst (λ p. p < port_count plan.nodes (start_of plan.links d)) (sym (ap (start_port plan.links) e ∙ start_port-odd plan.links j)) (subst (λ x. (link_of plan.links j).b_port < port_count plan.nodes x) (sym (ap (start_of plan.links) e ∙ start_of-odd plan.links j)) ports.1)
       ]
 
+  -- and so is the port by which it comes
+  pub end_port_there : (d : ℕ) → d < 2 * length plan.links → end_port plan.links d < port_count plan.nodes (end_of plan.links d)
+  end_port_there d h =
+      let back = start_port_there (back_of d) (back_below d (length plan.links) h) in
+      subst (λ p. p < port_count plan.nodes (end_of plan.links d)) (start_port-back plan.links d) (subst (λ x. start_port plan.links (back_of d) < port_count plan.nodes x) (start_of-back plan.links d) back)
+
   -- where a packet goes on, it leaves by another port than it came by
   pub other_port : (d e : ℕ) → d < 2 * length plan.links → MayFollow plan.links d e → start_port plan.links e ≢ end_port plan.links d
   other_port d e h m same =
@@ -70,9 +73,7 @@ module _ (plan : Plan) (tree : IsTree plan) where
   pub table_between : (d e : ℕ) → d < 2 * length plan.links → MayFollow plan.links d e → HasTable plan (end_of plan.links d)
   table_between d e h m =
       let out : start_port plan.links e < port_count plan.nodes (end_of plan.links d) = subst (λ x. start_port plan.links e < port_count plan.nodes x) m.starts (start_port_there e m.there) in
-      let came : start_port plan.links (back_of d) < port_count plan.nodes (start_of plan.links (back_of d)) = start_port_there (back_of d) (back_below d (length plan.links) h) in
-      let back : end_port plan.links d < port_count plan.nodes (end_of plan.links d) = subst (λ p. p < port_count plan.nodes (end_of plan.links d)) (start_port-back plan.links d) (subst (λ x. start_port plan.links (back_of d) < port_count plan.nodes x) (start_of-back plan.links d) came) in
-      table_at_ports (slice_get plan.nodes (end_of plan.links d)) (two_ports (start_port plan.links e) (end_port plan.links d) (port_count plan.nodes (end_of plan.links d)) (other_port d e h m) out back)
+      table_at_ports (slice_get plan.nodes (end_of plan.links d)) (two_ports (start_port plan.links e) (end_port plan.links d) (port_count plan.nodes (end_of plan.links d)) (other_port d e h m) out (end_port_there d h))
 
   -- a routed table sends a packet on over the next link
   pub sent_on-routed : (exits : Exits) (d e : ℕ) (epid : Epid) → d < 2 * length plan.links → MayFollow plan.links d e → exits (end_of plan.links d) epid ≡ Some (start_port plan.links e) → sent_on plan exits epid d ≡ Some e
@@ -83,15 +84,6 @@ module _ (plan : Plan) (tree : IsTree plan) where
       ∙ ap (λ y. link_at plan.links y (start_port plan.links e)) (sym m.starts)
       ∙ link_at-start plan tree e m.there
 
-  -- the way goes on over routed tables
-  pub leads_over : (exits : Exits) (z d : ℕ) (ds : List ℕ) (epid : Epid) → IsRouted plan exits → node_with plan.nodes epid ≡ Some z → (x : ℕ) → IsWay plan.links x z (d ∷ ds) → LeadsOver plan exits epid d ds z
-  leads_over exits z d [] epid r n x w = w.0.2
-  leads_over exits z d (e ∷ ds) epid r n x w =
-      let m = way_goes_on plan.links x z d e ds w in
-      let rest : IsWay plan.links (end_of plan.links d) z (e ∷ ds) = (w.0.2, w.1.1) in
-      let entry = r (end_of plan.links d) z e ds epid (table_between d e w.0.0 m) n (sym (only_way plan tree (end_of plan.links d) z (e ∷ ds) rest)) in
-      (sent_on-routed exits d e epid w.0.0 m entry, leads_over exits z e ds epid r n (end_of plan.links d) rest)
-
   -- a node that has an EPID has one port
   pub one_port : (x : ℕ) (epid : Epid) → node_with plan.nodes epid ≡ Some x → (x < length plan.nodes) × (port_count plan.nodes x ≡ 1)
   one_port x epid n =
@@ -100,25 +92,3 @@ module _ (plan : Plan) (tree : IsTree plan) where
         | inl f ↦ (f.1, ap (λ o. option_map_or ports_of o 0) f.2 ∙ port_of_end epid f.0 (ap (has_epid epid) (sym f.3) ∙ (at f.0).1))
         | inr f ↦ absurd (omega (arith, f.0, (at Adapter).0))
       ]
-
-  -- routed tables lead along a way
-  pub leads_by : (exits : Exits) (a b : Epid) (x z : ℕ) (ds : List ℕ) → IsRouted plan exits → node_with plan.nodes a ≡ Some x → node_with plan.nodes b ≡ Some z → x ≢ z → IsWay plan.links x z ds → Leads plan exits a b
-  leads_by exits a b x z [] r n m ne w = absurd (ne w.0)
-  leads_by exits a b x z (d ∷ ds) r n m ne w =
-      let out : start_port plan.links d < port_count plan.nodes x = subst (λ y. start_port plan.links d < port_count plan.nodes y) w.0.1 (start_port_there d w.0.0) in
-      let zero_port : start_port plan.links d ≡ 0 = omega (arith, out, (one_port x a n).1) in
-      record {
-        source = x;
-        target = z;
-        first = d;
-        links = ds;
-        from = n;
-        to = m;
-        out = ap (λ y. link_at plan.links y 0) (sym w.0.1) ∙ ap (link_at plan.links (start_of plan.links d)) (sym zero_port) ∙ link_at-start plan tree d w.0.0;
-        way = leads_over exits z d ds b r m x w;
-      }
-
-  -- routed tables lead from each EPID to each EPID of another node
-  pub leads_all : (exits : Exits) (a b : Epid) (x z : ℕ) → IsRouted plan exits → node_with plan.nodes a ≡ Some x → node_with plan.nodes b ≡ Some z → x ≢ z → Leads plan exits a b
-  leads_all exits a b x z r n m ne =
-      leads_by exits a b x z (way_of plan.links x z) r n m ne (way_of_is_way plan x z tree (one_port x a n).0 (one_port z b m).0)

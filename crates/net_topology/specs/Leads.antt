@@ -20,7 +20,7 @@ has_table (Endpoint epid bank) = false
 abbrev pub HasTable : Plan → ℕ → Type 0
 HasTable plan x = option_map_or has_table (slice_get plan.nodes x) false ≡ true
 
--- what the tables answer: a node's port for an EPID
+-- what the tables say: a node's port for an EPID
 abbrev pub Exits : Type 0
 Exits = ℕ → Epid → Option ℕ
 
@@ -52,6 +52,13 @@ pub record Leads (plan : Plan) (exits : Exits) (a b : Epid) : Type 0 where
   pub to : node_with plan.nodes b ≡ Some target
   pub out : link_at plan.links source 0 ≡ Some first
   pub way : LeadsOver plan exits b first links target
+
+-- behind each of these links but the last, the table has the port of the next one for the EPID
+abbrev pub IsAlong : Plan → Exits → Epid → List ℕ → Type 0
+IsAlong plan exits dst [] = Unit {0}
+IsAlong plan exits dst (d ∷ []) = Unit {0}
+IsAlong plan exits dst (d ∷ e ∷ ds) =
+    (exits (end_of plan.links d) dst ≡ Some (start_port plan.links e)) × IsAlong plan exits dst (e ∷ ds)
 
 -- each table has, for each EPID of another node, the port of the first link of the way there
 abbrev pub IsRouted : Plan → Exits → Type 0

@@ -2,7 +2,7 @@
 #![tactic(auto)]
 
 mod check;
-pub mod laws;
+pub mod law;
 mod plan;
 mod topology;
 
