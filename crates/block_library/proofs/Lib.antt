@@ -1,4 +1,10 @@
-pub mod BlockLemmas
-pub mod HistoryLemmas
-pub mod ProducerLemmas
+mod BlockLemmas
+mod CountLemmas
+mod HistoryLemmas
+mod KeptLemmas
+pub mod Laws
+mod LineLemmas
+mod ProducerLemmas
 pub mod SampleLemmas
+mod SizeLemmas
+mod WithinLemmas

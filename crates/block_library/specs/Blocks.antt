@@ -31,6 +31,18 @@ inputs (Replay n) = 1
 inputs (Switch n) = 2
 inputs Sink = 1
 
+-- how many outputs a kind has
+abbrev pub outputs : BlockKind → ℕ
+outputs Tx = 1
+outputs Rx = 0
+outputs Fifo = 1
+outputs Split = 2
+outputs (Keep n) = 1
+outputs (Repeat n) = 1
+outputs (Replay n) = 1
+outputs (Switch n) = 1
+outputs Sink = 0
+
 abbrev pub payload_in : Body → List ℕ
 payload_in (Samples time payload) = payload
 payload_in (Status status) = []

@@ -1,10 +1,10 @@
 -- What a block keeps of what was fed to it, and how it goes on from there.
-use Rattle.std.specs.Prelude.{◌≡◌, ◌==◌, ◌+◌, ◌%◌, ◌-◌, ◌^◌, ◌++◌, ℕ, List, [], ◌∷◌, Option, if◌then◌else◌, length, min}
+use Rattle.std.specs.Prelude.{◌≡◌, ◌<◌, ◌⊎◌, ◌==◌, ◌+◌, ◌%◌, ◌-◌, ◌^◌, ◌++◌, ℕ, List, [], ◌∷◌, Option, if◌then◌else◌, length, min}
 use Rattle.std.specs.List.{sum_by}
 use Rattle.chdr_packets.specs.declared.packet.Packet.{Packet}
 use Rattle.block_library.specs.declared.kind.BlockKind.{BlockKind}
 use Rattle.block_library.specs.declared.kind.BlockKind.TheVariants.{Tx, Rx, Fifo, Split, Keep, Repeat, Replay, Switch, Sink}
-use Rattle.block_library.specs.Blocks.{Lists, samples_in, payload_in, kept_samples, resampled, repeated_packet, closes, open_group, replayed_group, block_of, joined, alone}
+use Rattle.block_library.specs.Blocks.{FitsKind, Lists, samples_in, payload_in, kept_samples, resampled, repeated_packet, closes, open_group, replayed_group, block_of, joined, alone}
 
 -- the count of packets stands still at the end of its type
 abbrev pub counted : ℕ → ℕ
@@ -59,6 +59,13 @@ kept_of kind item fed = record {
   fed = counted (total fed);
   given = counted (total (block_of kind item fed));
 }
+
+-- what a block keeps is in its ranges
+pub record FitsKept (kept : Kept) : Type 0 where
+  pub kind : FitsKind kept.kind
+  pub item : (kept.item ≡ 4) ⊎ (kept.item ≡ 8)
+  pub phase : kept.phase < 1024
+  pub group : length kept.group < 64
 
 abbrev pub lists : List Packet → List Packet → Lists
 lists first second = record { first = first; second = second }
@@ -167,3 +174,8 @@ kind_number Sink = 0
 
 abbrev pub block_registers : Kept → List ℕ
 block_registers kept = kind_code kept.kind ∷ kind_number kept.kind ∷ kept.fed ∷ kept.given ∷ []
+
+-- what a new block keeps is in its ranges, and a packet more leaves it there
+abbrev pub KeptStaysFit : Type 0
+KeptStaysFit = ((kind : BlockKind) (item : ℕ) → FitsKind kind → (item ≡ 4) ⊎ (item ≡ 8) → FitsKept (kept_of kind item (lists [] [])))
+    × ((kept : Kept) (port : ℕ) (p : Packet) → FitsKept kept → FitsKept (after_feed kept port p))

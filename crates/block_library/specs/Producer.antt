@@ -1,5 +1,5 @@
 -- What a Tx block gives.
-use Rattle.std.specs.Prelude.{◌≡◌, ◌==◌, ◌+◌, ◌*◌, ◌%◌, ◌^◌, ◌≤◌, ◌⊎◌, ℕ, List, [], false, map, Option, option_map}
+use Rattle.std.specs.Prelude.{◌≡◌, ◌<◌, length, slice_index_or, ◌==◌, ◌+◌, ◌*◌, ◌%◌, ◌^◌, ◌≤◌, ◌⊎◌, ℕ, List, [], false, map, Option, option_map}
 use Rattle.std.specs.List.{range_with_len}
 use Rattle.chdr_packets.specs.declared.packet.Packet.{Packet}
 use Rattle.chdr_packets.specs.declared.packet.Body.TheVariants.{Samples}
@@ -32,3 +32,8 @@ packet_of plan k = record {
 -- the packets of a plan, in order
 unfoldable pub produced : TxPlan → List Packet
 produced plan = map (packet_of plan) (range_with_len 0 plan.packets)
+
+-- a plan gives as many packets as it says, and packet k is the one of number k
+abbrev pub ProducedIsByPlace : Type 0
+ProducedIsByPlace = ((plan : TxPlan) → length (produced plan) ≡ plan.packets)
+    × ((plan : TxPlan) (k : ℕ) (d : Packet) → k < plan.packets → slice_index_or (produced plan) k d ≡ packet_of plan k)

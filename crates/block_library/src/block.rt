@@ -77,18 +77,7 @@ impl Block {
         ensures every { port < inputs self.now.kept.kind → IsFeed self.now.kept.item packet.now →
             IsTrue result }
     {
-        let inputs = match self.kind {
-            BlockKind::Tx => 0,
-            BlockKind::Switch(_) => 2,
-            BlockKind::Rx
-            | BlockKind::Fifo
-            | BlockKind::Split
-            | BlockKind::Keep(_)
-            | BlockKind::Repeat(_)
-            | BlockKind::Replay(_)
-            | BlockKind::Sink => 1,
-        };
-        port < inputs
+        port < self.kind.inputs()
             && packet.vc == 0
             && packet.mdata.is_empty()
             && holds_samples(self.item, &packet.body)

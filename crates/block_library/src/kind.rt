@@ -1,5 +1,5 @@
-ghost use Rattle.std.specs.Prelude.{IsTrue, ◌↔◌};
-ghost use Rattle.block_library.specs.Blocks.{FitsKind};
+ghost use Rattle.std.specs.Prelude.{IsTrue, ◌≡◌, ◌↔◌};
+ghost use Rattle.block_library.specs.Blocks.{FitsKind, inputs, outputs};
 
 use rf_base::{Copyable, Memory};
 
@@ -30,6 +30,30 @@ impl BlockKind {
             BlockKind::Switch(n) => n <= 1,
             BlockKind::Tx | BlockKind::Rx | BlockKind::Fifo | BlockKind::Split | BlockKind::Sink =>
                 true,
+        }
+    }
+
+    /// How many inputs a block of the kind has.
+    pub fn inputs(self) -> u16
+        ensures { result ≡ inputs self }
+    {
+        match self {
+            BlockKind::Tx => 0,
+            BlockKind::Rx | BlockKind::Fifo | BlockKind::Split | BlockKind::Sink => 1,
+            BlockKind::Keep(_) | BlockKind::Repeat(_) | BlockKind::Replay(_) => 1,
+            BlockKind::Switch(_) => 2,
+        }
+    }
+
+    /// How many outputs a block of the kind has.
+    pub fn outputs(self) -> u16
+        ensures { result ≡ outputs self }
+    {
+        match self {
+            BlockKind::Rx | BlockKind::Sink => 0,
+            BlockKind::Tx | BlockKind::Fifo | BlockKind::Switch(_) => 1,
+            BlockKind::Keep(_) | BlockKind::Repeat(_) | BlockKind::Replay(_) => 1,
+            BlockKind::Split => 2,
         }
     }
 }

@@ -1,4 +1,4 @@
-ghost use Rattle.std.specs.Prelude.{◌≡◌, ◌^◌, ◌<◌, ◌++◌, ◌⊎◌, IfOk};
+ghost use Rattle.std.specs.Prelude.{IsTrue, ◌↔◌, ◌≡◌, ◌^◌, ◌<◌, ◌++◌, ◌⊎◌, IfOk};
 ghost use Rattle.block_library.specs.Producer.{FitsPlan, packet_of};
 ghost use Rattle.block_library.specs.Samples.{sample, samples_from};
 
@@ -26,6 +26,16 @@ pub struct TxPlan {
 
 #[tactic(auto, unfolding(crate::specs::Producer::packet_of))]
 impl TxPlan {
+    /// Whether the numbers are in their ranges.
+    pub fn fits(&self) -> bool
+        ensures { IsTrue result ↔ FitsPlan self.now }
+    {
+        self.packets <= 16384
+            && 1 <= self.spp
+            && self.spp <= 1022
+            && (self.item == 4 || self.item == 8)
+    }
+
     /// Packet `k` of the plan, counted from 0; the stream that it goes out on sets SeqNum.
     pub fn packet(&self, alloc: Global, k: u32) -> Result<Packet, Memory>
         requires fits { FitsPlan self.now }

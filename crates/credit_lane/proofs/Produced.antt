@@ -1,7 +1,7 @@
 -- The next packet of a producer's list.
 use Rattle.std.proofs.Common.{◌≡◌, ℕ, ◌<◌, Some, slice_get, ap, ◌∙◌, sym, subst}
 use Rattle.std.proofs.lemmas.Option.{slice_get-get_or}
-use Rattle.block_library.proofs.ProducerLemmas.{length-produced, get_or-produced}
+use Rattle.block_library.proofs.Laws.{length-produced, get_or-produced}
 use Rattle.block_library.specs.Producer.{packet_of, produced}
 use Rattle.block_library.specs.declared.plan.TxPlan.{TxPlan}
 

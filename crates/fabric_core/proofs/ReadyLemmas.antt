@@ -9,7 +9,7 @@ use Rattle.chdr_packets.specs.declared.packet.Packet.{Packet}
 use Rattle.chdr_packets.specs.Length.{wire_of}
 use Rattle.block_library.specs.declared.plan.TxPlan.{TxPlan}
 use Rattle.block_library.specs.Producer.{produced, packet_of}
-use Rattle.block_library.proofs.ProducerLemmas.{length-produced, get_or-produced}
+use Rattle.block_library.proofs.Laws.{length-produced, get_or-produced}
 use Rattle.fabric_core.specs.Machine.{has_packet, numbered}
 use Rattle.fabric_core.specs.NetValue.{EntersNext, stand_after_sending}
 use Rattle.fabric_core.specs.Present.{Stand}

@@ -3,7 +3,7 @@ use Rattle.std.proofs.Common.{◌≡◌, ℕ, List, [], ◌∷◌, refl, ◌∙�
 use Rattle.chdr_packets.specs.declared.packet.Packet.{Packet}
 use Rattle.block_library.specs.declared.plan.TxPlan.{TxPlan}
 use Rattle.block_library.specs.Producer.{produced, FitsPlan}
-use Rattle.block_library.proofs.ProducerLemmas.{length-produced}
+use Rattle.block_library.proofs.Laws.{length-produced}
 use Rattle.fabric_core.specs.Machine.{queue_at, stream_at}
 use Rattle.fabric_core.specs.Present.{Stand, IsKept, stand_at}
 use Rattle.fabric_core.specs.NetValue.{NetValue, Stands, Tracked}

@@ -10,10 +10,11 @@ mod standing;
 mod steps;
 mod tally;
 
+pub use block_library::Line;
 pub use event::{Event, Journal};
 pub use net::Net;
 pub use queue::LINK_ROOM;
-pub use tally::{Line, StreamEnd, Tally};
+pub use tally::{StreamEnd, Tally};
 
 #[cfg(test)]
 mod tests;

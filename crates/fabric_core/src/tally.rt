@@ -23,15 +23,3 @@ pub struct Tally {
     pub peak_bytes: u64,
     pub peak_packets: u64,
 }
-
-/// What an Rx block took in a run.
-#[derive(Clone, Copy, Debug, PartialEq, Eq)]
-pub struct Line {
-    pub block: u16,
-    pub packets: u64,
-    /// Samples of the block's item size; the count stands still at 2^64 - 1.
-    pub samples: u64,
-    /// The first sample taken, and the last one.
-    pub first: Option<u64>,
-    pub last: Option<u64>,
-}

@@ -2,30 +2,17 @@
 use Rattle.std.specs.Prelude.{ℕ, zero, suc, ◌+◌, ◌<◌, List, [], ◌∷◌, ◌++◌, slice_get, sum_by}
 use Rattle.std.specs.Option.{option_map_or}
 use Rattle.block_library.specs.declared.kind.BlockKind.{BlockKind}
-use Rattle.block_library.specs.declared.kind.BlockKind.TheVariants.{Tx, Rx, Fifo, Split, Keep, Repeat, Replay, Switch, Sink}
-use Rattle.block_library.specs.Blocks.{inputs}
+use Rattle.block_library.specs.Blocks.{inputs, outputs}
 use Rattle.graph_core.specs.declared.place.Side.{Side}
 use Rattle.graph_core.specs.declared.place.Side.TheVariants.{Into, Out}
 use Rattle.graph_core.specs.declared.place.Prop.TheVariants.{Rate, Item, Spp}
 use Rattle.graph_core.specs.declared.place.PortAt.{PortAt}
 use Rattle.graph_core.specs.declared.place.PropAt.{PropAt}
 
--- how many outputs a block of the kind has
-abbrev pub output_count : BlockKind → ℕ
-output_count Tx = 1
-output_count Rx = 0
-output_count Fifo = 1
-output_count Split = 2
-output_count (Keep n) = 1
-output_count (Repeat n) = 1
-output_count (Replay n) = 1
-output_count (Switch n) = 1
-output_count Sink = 0
-
 -- how many ports a block of the kind has on the side
 abbrev pub port_count : Side → BlockKind → ℕ
 port_count Into kind = inputs kind
-port_count Out kind = output_count kind
+port_count Out kind = outputs kind
 
 -- how many ports the block of that number has on the side; none where there is no such block
 abbrev pub ports_at : List BlockKind → ℕ → Side → ℕ
@@ -41,7 +28,7 @@ IsProperty kinds at = at.port < ports_at kinds at.block at.side
 
 -- how many ports the blocks have together
 abbrev pub port_total : List BlockKind → ℕ
-port_total kinds = sum_by (λ kind. inputs kind + output_count kind) kinds
+port_total kinds = sum_by (λ kind. inputs kind + outputs kind) kinds
 
 -- the properties of one port, in order
 abbrev pub port_properties : ℕ → Side → ℕ → List PropAt
@@ -58,7 +45,7 @@ side_properties block side (suc n) = side_properties block side n ++ port_proper
 
 -- the properties of a block: its inputs, then its outputs
 abbrev pub block_properties : ℕ → BlockKind → List PropAt
-block_properties block kind = side_properties block Into (inputs kind) ++ side_properties block Out (output_count kind)
+block_properties block kind = side_properties block Into (inputs kind) ++ side_properties block Out (outputs kind)
 
 -- the properties of blocks numbered from `block` on, block by block
 abbrev pub properties_from : ℕ → List BlockKind → List PropAt

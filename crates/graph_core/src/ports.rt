@@ -1,42 +1,16 @@
 ghost use Rattle.std.specs.Prelude.{◌≡◌, ◌<◌, ◌↔◌, IsTrue};
-ghost use Rattle.block_library.specs.Blocks.{inputs};
-ghost use Rattle.graph_core.specs.Ports.{output_count, port_count, ports_at, IsPort};
+ghost use Rattle.graph_core.specs.Ports.{port_count, ports_at, IsPort};
 
 use crate::{PortAt, Side};
 use block_library::BlockKind;
-
-/// How many inputs a block of the kind has.
-fn input_count(kind: BlockKind) -> u16
-    ensures { result ≡ inputs kind }
-{
-    match kind {
-        BlockKind::Tx => 0,
-        BlockKind::Rx | BlockKind::Fifo | BlockKind::Split | BlockKind::Sink => 1,
-        BlockKind::Keep(_) | BlockKind::Repeat(_) | BlockKind::Replay(_) => 1,
-        BlockKind::Switch(_) => 2,
-    }
-}
-
-/// How many outputs a block of the kind has.
-fn output_count(kind: BlockKind) -> u16
-    ensures { result ≡ output_count kind }
-{
-    match kind {
-        BlockKind::Rx | BlockKind::Sink => 0,
-        BlockKind::Tx | BlockKind::Fifo => 1,
-        BlockKind::Keep(_) | BlockKind::Repeat(_) | BlockKind::Replay(_) => 1,
-        BlockKind::Switch(_) => 1,
-        BlockKind::Split => 2,
-    }
-}
 
 /// How many ports a block of the kind has on the side; docs/graph.md has the table.
 pub fn port_count(kind: BlockKind, side: Side) -> u16
     ensures { result ≡ port_count side kind }
 {
     match side {
-        Side::Into => input_count(kind),
-        Side::Out => output_count(kind),
+        Side::Into => kind.inputs(),
+        Side::Out => kind.outputs(),
     }
 }
 

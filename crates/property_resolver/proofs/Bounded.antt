@@ -3,7 +3,7 @@ use Rattle.std.proofs.Common.{◌≡◌, ◌≢◌, ◌∙◌, ℕ, zero, suc, �
 use Rattle.std.proofs.lemmas.Bool.{cases_lt}
 use Rattle.std.proofs.lemmas.List.Elements.{Contains-append_left, Contains-append_right, Contains-append_cases, Contains-push}
 use Rattle.std.proofs.lemmas.List.Sums.{sum_by-cons, sum_by_push, sum_by-le}
-use Rattle.block_library.specs.Blocks.{inputs}
+use Rattle.block_library.specs.Blocks.{inputs, outputs}
 use Rattle.graph_core.specs.declared.place.Side.TheVariants.{Into, Out}
 use Rattle.graph_core.specs.declared.place.Prop.{Prop}
 use Rattle.graph_core.specs.declared.place.Prop.TheVariants.{Rate, Item, Spp}
@@ -12,7 +12,7 @@ use Rattle.graph_core.specs.declared.place.Edge.{Edge}
 use Rattle.graph_core.specs.Derivation.{Diagram, IsDerivation, across, property_at}
 use Rattle.graph_core.specs.Derivation.IsDerivation.{none, set, given}
 use Rattle.graph_core.specs.Pairs.{Pair, Lacks}
-use Rattle.graph_core.specs.Ports.{properties, port_total, output_count}
+use Rattle.graph_core.specs.Ports.{properties, port_total}
 use Rattle.graph_core.specs.State.{IsDiagram}
 use Rattle.graph_core.proofs.Places.{two_ports}
 use Rattle.property_resolver.specs.Work.{one_if_some, edge_work, work, most_work}
@@ -137,7 +137,7 @@ module _ (diagram : Diagram) (pairs : List Pair) (d : IsDerivation diagram pairs
   few_pairs =
       let b = blocks_work in
       let l = at_least [] pairs in
-      let p : port_total diagram.kinds ≤ length diagram.kinds * 4 = sum_by-le (λ kind. inputs kind + output_count kind) 4 diagram.kinds
+      let p : port_total diagram.kinds ≤ length diagram.kinds * 4 = sum_by-le (λ kind. inputs kind + outputs kind) 4 diagram.kinds
       (λ k d lt. let i = two_ports Into (get_or diagram.kinds k d) in let o = two_ports Out (get_or diagram.kinds k d) in omega arith) in
       let n = ok.few in
       omega arith

@@ -4,7 +4,7 @@ use Rattle.std.proofs.lemmas.Bool.{cases_lt}
 use Rattle.std.proofs.lemmas.List.Elements.{Contains-append_left, Contains-append_right, Contains-append_cases, All-contains}
 use Rattle.std.proofs.lemmas.List.Sums.{sum_by-cons}
 use Rattle.block_library.specs.declared.kind.BlockKind.{BlockKind}
-use Rattle.block_library.specs.Blocks.{inputs}
+use Rattle.block_library.specs.Blocks.{inputs, outputs}
 use Rattle.graph_core.specs.declared.place.Side.{Side}
 use Rattle.graph_core.specs.declared.place.Side.TheVariants.{Into, Out}
 use Rattle.graph_core.specs.declared.place.Prop.{Prop}
@@ -18,7 +18,7 @@ use Rattle.graph_core.specs.Derivation.{Diagram, IsDerivation, Gives, is_at, oth
 use Rattle.graph_core.specs.Derivation.IsDerivation.{none, set, given}
 use Rattle.graph_core.specs.Edges.{IsJoined}
 use Rattle.graph_core.specs.Pairs.{Pair}
-use Rattle.graph_core.specs.Ports.{port_count, output_count, ports_at, port_total, IsProperty, port_properties, side_properties, block_properties, properties_from, properties}
+use Rattle.graph_core.specs.Ports.{port_count, ports_at, port_total, IsProperty, port_properties, side_properties, block_properties, properties_from, properties}
 use Rattle.graph_core.specs.State.{IsDiagram}
 use Rattle.graph_core.proofs.Derived.{none_in, pushed_pair}
 use Rattle.property_resolver.proofs.Learned.{same_item}
@@ -40,10 +40,10 @@ side_listed block side (suc n) port prop lt = ⊎_elim
 
 block_listed : (block : ℕ) (kind : BlockKind) (side : Side) (port : ℕ) (prop : Prop) → port < port_count side kind
     → Contains (block_properties block kind) (record { block = block; side = side; port = port; prop = prop })
-block_listed block kind Into port prop lt = Contains-append_left (side_properties block Into (inputs kind)) (side_properties block Out (output_count kind)) _
+block_listed block kind Into port prop lt = Contains-append_left (side_properties block Into (inputs kind)) (side_properties block Out (outputs kind)) _
     (side_listed block Into (inputs kind) port prop lt)
-block_listed block kind Out port prop lt = Contains-append_right (side_properties block Into (inputs kind)) (side_properties block Out (output_count kind)) _
-    (side_listed block Out (output_count kind) port prop lt)
+block_listed block kind Out port prop lt = Contains-append_right (side_properties block Into (inputs kind)) (side_properties block Out (outputs kind)) _
+    (side_listed block Out (outputs kind) port prop lt)
 
 from_listed : (kinds : List BlockKind) (first index : ℕ) (side : Side) (port : ℕ) (prop : Prop) → port < ports_at kinds index side
     → Contains (properties_from first kinds) (record { block = first + index; side = side; port = port; prop = prop })
@@ -79,8 +79,8 @@ side_of block side (suc n) at h = ⊎_elim
 block_of : (block : ℕ) (kind : BlockKind) (at : PropAt) → Contains (block_properties block kind) at → (block ≡ at.block) × (at.port < port_count at.side kind)
 block_of block kind at h = ⊎_elim
     (λ a. let r = side_of block Into (inputs kind) at a in (r.0, subst (λ s. at.port < port_count s kind) r.1 r.2))
-    (λ b. let r = side_of block Out (output_count kind) at b in (r.0, subst (λ s. at.port < port_count s kind) r.1 r.2))
-    (Contains-append_cases (side_properties block Into (inputs kind)) (side_properties block Out (output_count kind)) at h)
+    (λ b. let r = side_of block Out (outputs kind) at b in (r.0, subst (λ s. at.port < port_count s kind) r.1 r.2))
+    (Contains-append_cases (side_properties block Into (inputs kind)) (side_properties block Out (outputs kind)) at h)
 
 from_of : (kinds : List BlockKind) (first : ℕ) (at : PropAt) → Contains (properties_from first kinds) at → (index : ℕ) × (first + index ≡ at.block) × (at.port < ports_at kinds index at.side)
 from_of [] first at h = absurd (omega (arith, h.1))
@@ -103,10 +103,10 @@ from_length [] first = refl
 from_length (kind ∷ kinds) first =
     let r = from_length kinds (first + 1) in
     let a = length-append (block_properties first kind) (properties_from (first + 1) kinds) in
-    let b = length-append (side_properties first Into (inputs kind)) (side_properties first Out (output_count kind)) in
+    let b = length-append (side_properties first Into (inputs kind)) (side_properties first Out (outputs kind)) in
     let i = side_length first Into (inputs kind) in
-    let o = side_length first Out (output_count kind) in
-    let s = sum_by-cons (λ k. inputs k + output_count k) kind kinds in
+    let o = side_length first Out (outputs kind) in
+    let s = sum_by-cons (λ k. inputs k + outputs k) kind kinds in
     omega arith
 
 -- there are three for each port

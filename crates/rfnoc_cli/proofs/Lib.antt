@@ -1,5 +1,4 @@
 pub mod Lengths
-pub mod LineLemmas
 pub mod ReportLemmas
 pub mod MoveLemmas
 pub mod NextLemmas

@@ -6,7 +6,7 @@ use Rattle.std.proofs.lemmas.Bool.{cases_lt}
 use Rattle.std.proofs.lemmas.List.Sums.{sum_by_more}
 use Rattle.fabric_core.specs.declared.tally.StreamEnd.{StreamEnd}
 use Rattle.fabric_core.specs.declared.tally.Tally.{Tally}
-use Rattle.fabric_core.specs.declared.tally.Line.{Line}
+use Rattle.block_library.specs.declared.line.Line.{Line}
 use Rattle.rfnoc_cli.specs.declared.book.Book.{Book}
 use Rattle.rfnoc_cli.specs.declared.straight.Straight.{Straight}
 use Rattle.rfnoc_cli.specs.Report.{stream_text, streams_text, sink_text, sinks_text, book_text, books_text}

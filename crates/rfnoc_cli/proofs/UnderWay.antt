@@ -12,7 +12,7 @@ use Rattle.fabric_core.specs.Runs.{IsChosen, after_all, next_of, has_unseen, tak
 use Rattle.fabric_core.specs.declared.event.Event.{Event}
 use Rattle.fabric_core.specs.declared.event.Event.TheVariants.{Enter, Hop, Seen}
 use Rattle.rfnoc_cli.specs.declared.book.RunBook.{RunBook}
-use Rattle.rfnoc_cli.specs.Lines.{line_of}
+use Rattle.block_library.specs.Lines.{line_of}
 use Rattle.rfnoc_cli.specs.Run.{IsOne, IsFresh, IsRunOf, IsUnderWay, given_of, waiting_of, given_at}
 use Rattle.rfnoc_cli.proofs.MoveLemmas.{single}
 use Rattle.rfnoc_cli.proofs.NextLemmas.{streams-one, next_of-one}

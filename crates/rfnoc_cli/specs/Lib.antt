@@ -1,7 +1,6 @@
 pub mod Parts
 pub mod Form
 pub mod Words
-pub mod Lines
 pub mod Report
 pub mod Run
 pub mod TopCall

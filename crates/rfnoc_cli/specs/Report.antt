@@ -4,7 +4,7 @@ use Rattle.std.specs.declared.alloc.Global.{Global}
 use Rattle.fabric_core.specs.declared.tally.StreamEnd.{StreamEnd}
 use Rattle.fabric_core.specs.declared.tally.StreamEnd.TheVariants.{Drained, Broken, Undrained}
 use Rattle.fabric_core.specs.declared.tally.Tally.{Tally}
-use Rattle.fabric_core.specs.declared.tally.Line.{Line}
+use Rattle.block_library.specs.declared.line.Line.{Line}
 use Rattle.rfnoc_cli.specs.declared.book.Book.{Book}
 use Rattle.rfnoc_cli.specs.declared.book.Book.TheVariants.{Net, Block, Connect, Set, Commit, Run}
 use Rattle.rfnoc_cli.specs.declared.book.RunBook.{RunBook}

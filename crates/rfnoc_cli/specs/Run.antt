@@ -6,7 +6,7 @@ use Rattle.fabric_core.specs.Present.{Present, stand_at}
 use Rattle.fabric_core.specs.NetValue.{NetValue, Stands}
 use Rattle.fabric_core.specs.Runs.{IsChosen, after_all, next_of, end_of, tally_of, taken_of}
 use Rattle.fabric_core.specs.declared.event.Event.{Event}
-use Rattle.rfnoc_cli.specs.Lines.{line_of}
+use Rattle.block_library.specs.Lines.{line_of}
 use Rattle.rfnoc_cli.specs.declared.book.RunBook.{RunBook}
 
 -- the journal of one thread from this state, and what it leaves

@@ -4,7 +4,6 @@
 mod book;
 mod form;
 mod input;
-mod line;
 mod parts;
 mod perform;
 mod run;
@@ -14,7 +13,7 @@ mod top;
 mod words;
 
 pub use book::{Book, BookList, Books, Ends, Lines, RunBook, TakenLists, Tallies};
-pub use fabric_core::Line;
+pub use block_library::Line;
 pub use input::{SCRIPT_LIMIT, read_form};
 pub use run::run_one;
 pub use straight::Straight;

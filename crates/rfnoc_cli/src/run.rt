@@ -3,11 +3,10 @@ ghost use Rattle.std.specs.Prelude.{◌≡◌, ◌⊎◌, ◌+◌, ◌<◌, ◌�
 ghost use Rattle.fabric_core.specs.Machine.{State, after};
 ghost use Rattle.fabric_core.specs.NetValue.{Stands, doable};
 ghost use Rattle.fabric_core.specs.Runs.{after_all, next_of, end_of, tally_of};
-ghost use Rattle.rfnoc_cli.specs.Lines.{line_of};
+ghost use Rattle.block_library.specs.Lines.{line_of};
 ghost use Rattle.rfnoc_cli.specs.Run.{IsRunOf, IsOne, IsFresh, given_of, waiting_of, given_at, left_of};
 
-use crate::RunBook;
-use crate::line::line_of;
+use crate::{Line, RunBook};
 use chdr_packets::{Packet, PacketList};
 use fabric_core::{Event, Net};
 use rf_base::{Items, Memory};
@@ -122,7 +121,7 @@ fn book_of(
     ensures tallies { IfOk result
         (λ book. (w : State) → Stands net.now w → book.tallies ≡ tally_of w 0 ∷ []) }
 {
-    let line = line_of(block, item, taken.as_slice());
+    let line = Line::of(block, item, taken.as_slice());
     let events = Vec::from_slice(alloc, net.journal())?;
     let ends = one(alloc, net.end(0))?;
     let tallies = one(alloc, net.tally(0))?;
