@@ -11,8 +11,8 @@ use Rattle.std.proofs.lemmas.List.Concat.{flat_map-cons}
 use Rattle.chdr_words.specs.Field.{field, word_at, half_at, words_at, halves_at, words_bytes, halves_bytes}
 use Rattle.chdr_words.specs.Header.{bit_of, header_of, header_word, type_of, type_number}
 use Rattle.chdr_words.specs.Wire.{time_bytes}
-use Rattle.chdr_words.proofs.WordLemmas.{each_at-cons, each_at-none, words_at-front}
-use Rattle.chdr_words.proofs.ManagementReading.{IsBytes, small_take, words_whole}
+use Rattle.chdr_words.specs.Laws.{IsBytes}
+use Rattle.chdr_words.proofs.Laws.{each_at-cons, each_at-none, words_at-front, small_take, words_whole}
 use Rattle.chdr_packets.proofs.WritingLemmas.{and_parts}
 
 -- ---- the header's word

@@ -16,10 +16,8 @@ use Rattle.chdr_words.specs.declared.header.PktType.{PktType}
 use Rattle.chdr_words.specs.declared.header.PktType.TheVariants as types
 use Rattle.chdr_words.specs.declared.status.Status as statuses
 use Rattle.chdr_words.specs.declared.command.Command as commands
-use Rattle.chdr_words.proofs.WordLemmas.{length-each_at}
-use Rattle.chdr_words.proofs.PlainLemmas.{status_takes, status_again, command_takes, command_again}
-use Rattle.chdr_words.proofs.ControlLemmas.{control_again, control_reads}
-use Rattle.chdr_words.proofs.ManagementReading.{IsBytes, small_take, management_again, management_reads}
+use Rattle.chdr_words.specs.Laws.{IsBytes}
+use Rattle.chdr_words.proofs.Laws.{length-each_at, status_takes, status_again, command_takes, command_again, control_again, control_reads, small_take, management_again, management_reads}
 use Rattle.chdr_packets.specs.declared.fault.PacketFault.{PacketFault}
 use Rattle.chdr_packets.specs.declared.packet.Packet.{Packet}
 use Rattle.chdr_packets.specs.declared.packet.Body.{Body}
@@ -73,7 +71,7 @@ body_parts : (t : PktType) (b payload : List ℕ) (body : Body) → IsBytes payl
 body_parts types.Management b payload body small good e =
     let x = as_body_ok bodies.Management (management_read payload) body e in
     subst (λ (body : Body). BodyIs types.Management None payload body) x.2
-    (record { kind = refl; timed = refl; start = refl; spelled = management_reads payload (Ok x.0) small x.1 })
+    (record { kind = refl; timed = refl; start = refl; spelled = management_reads payload x.0 small x.1 })
 body_parts types.Status b payload body small good e =
     let x = as_body_ok bodies.Status (status_read payload) body e in
     subst (λ (body : Body). BodyIs types.Status None payload body) x.2
@@ -85,7 +83,7 @@ body_parts types.Command b payload body small good e =
 body_parts types.Control b payload body small good e =
     let x = as_body_ok bodies.Control (control_read payload) body e in
     subst (λ (body : Body). BodyIs types.Control None payload body) x.2
-    (record { kind = refl; timed = refl; start = refl; spelled = control_reads payload (Ok x.0) (sym x.1) })
+    (record { kind = refl; timed = refl; start = refl; spelled = control_reads payload x.0 x.1 })
 body_parts types.Plain b payload body small good e =
     subst (λ (body : Body). BodyIs types.Plain None payload body) (ap (the_body body) e)
     (record { kind = refl; timed = refl; start = refl; spelled = refl })

@@ -7,7 +7,7 @@ use Rattle.chdr_words.specs.Field.{field, word_at}
 use Rattle.chdr_words.specs.Wire.{time_bytes}
 use Rattle.chdr_words.specs.declared.header.Header.{Header}
 use Rattle.chdr_words.specs.Management.{hops_words}
-use Rattle.chdr_words.proofs.ManagementReading.{IsBytes as SmallBytes}
+use Rattle.chdr_words.specs.Laws.{IsBytes as SmallBytes}
 use Rattle.chdr_packets.specs.declared.packet.Body.{Body}
 use Rattle.chdr_packets.specs.declared.packet.Body.TheVariants as bodies
 use Rattle.chdr_packets.specs.Fits.{FitsBody}

@@ -10,7 +10,7 @@ use Rattle.chdr_words.specs.Wire.{wire_size_of}
 use Rattle.chdr_words.specs.declared.header.Header.{Header}
 use Rattle.chdr_words.specs.declared.header.PktType.{PktType}
 use Rattle.chdr_words.specs.declared.header.PktType.TheVariants as types
-use Rattle.chdr_words.proofs.WordLemmas.{word_at-front, words_at-front}
+use Rattle.chdr_words.proofs.Laws.{word_at-front, words_at-front}
 use Rattle.chdr_packets.specs.declared.fault.PacketFault.{PacketFault}
 use Rattle.chdr_packets.specs.declared.fault.PacketFault.TheVariants.{ReservedType, BadLength}
 use Rattle.chdr_packets.specs.declared.packet.Packet.{Packet}

@@ -14,7 +14,7 @@ use Rattle.chdr_words.specs.declared.fault.MsgFault.{MsgFault}
 use Rattle.chdr_words.specs.declared.header.Header.{Header}
 use Rattle.chdr_words.specs.declared.header.PktType.{PktType}
 use Rattle.chdr_words.specs.declared.header.PktType.TheVariants as types
-use Rattle.chdr_words.proofs.ManagementReading.{IsBytes as SmallBytes}
+use Rattle.chdr_words.specs.Laws.{IsBytes as SmallBytes}
 use Rattle.chdr_packets.specs.Fits.{FitsPacket}
 use Rattle.chdr_packets.specs.Grammar.{IsCanon, Spells, is_plain, start_of}
 use Rattle.chdr_packets.specs.Reading.{Gives, is_reserved, as_body, time_at, body_read, marked, packed, opened, frame_read, packet_read}

@@ -13,9 +13,8 @@ use Rattle.chdr_words.specs.declared.fault.MsgFault.TheVariants.{BadStatusLength
 use Rattle.chdr_words.specs.declared.header.Header.{Header}
 use Rattle.chdr_words.specs.declared.header.PktType.{PktType}
 use Rattle.chdr_words.specs.declared.header.PktType.TheVariants as types
-use Rattle.chdr_words.proofs.PlainLemmas.{status_takes, status_again, command_takes, command_again}
-use Rattle.chdr_words.proofs.ControlLemmas.{control_takes, control_again}
-use Rattle.chdr_words.proofs.ManagementReading.{IsBytes, management_takes, management_again}
+use Rattle.chdr_words.specs.Laws.{IsBytes}
+use Rattle.chdr_words.proofs.Laws.{status_takes, status_again, command_takes, command_again, control_takes, control_again, management_takes, management_again}
 use Rattle.chdr_packets.specs.declared.fault.PacketFault.{PacketFault}
 use Rattle.chdr_packets.specs.declared.fault.PacketFault.TheVariants.{ReservedType, BadLength, Message, Memory}
 use Rattle.chdr_packets.specs.declared.packet.Packet.{Packet}

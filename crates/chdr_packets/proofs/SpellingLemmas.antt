@@ -21,8 +21,8 @@ use Rattle.chdr_words.specs.declared.command.CmdOp.{CmdOp}
 use Rattle.chdr_words.specs.declared.command.CmdOp.TheVariants as cmds
 use Rattle.chdr_words.specs.declared.control.Control.{Control}
 use Rattle.chdr_words.specs.declared.management.Management.{Management}
-use Rattle.chdr_words.proofs.ControlWriting.{Ranged, control_spelled}
-use Rattle.chdr_words.proofs.ManagementReading.{management_spelled}
+use Rattle.chdr_words.specs.Laws.{Ranged}
+use Rattle.chdr_words.proofs.Laws.{control_spelled, management_spelled}
 use Rattle.chdr_packets.specs.declared.packet.Packet.{Packet}
 use Rattle.chdr_packets.specs.declared.packet.Body.{Body}
 use Rattle.chdr_packets.specs.declared.packet.Body.TheVariants as bodies

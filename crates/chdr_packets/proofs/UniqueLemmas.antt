@@ -15,8 +15,8 @@ use Rattle.chdr_words.specs.declared.status.Status.{Status}
 use Rattle.chdr_words.specs.declared.command.Command.{Command}
 use Rattle.chdr_words.specs.declared.control.Control.{Control}
 use Rattle.chdr_words.specs.declared.management.Management.{Management}
-use Rattle.chdr_words.proofs.WordLemmas.{each_at-cons, each_at-more, each_at-none}
-use Rattle.chdr_words.proofs.ManagementReading.{IsBytes as SmallBytes, word_at-below}
+use Rattle.chdr_words.specs.Laws.{IsBytes as SmallBytes}
+use Rattle.chdr_words.proofs.Laws.{each_at-cons, each_at-more, each_at-none, word_at-below}
 use Rattle.chdr_packets.specs.declared.packet.Body.{Body}
 use Rattle.chdr_packets.specs.declared.packet.Body.TheVariants as bodies
 use Rattle.chdr_packets.specs.Grammar.{body_time, body_type, header_for, SpellsBody, payload_plain, payload_start}

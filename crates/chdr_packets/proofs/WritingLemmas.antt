@@ -17,7 +17,8 @@ use Rattle.chdr_words.specs.Management.{hop_words, hops_words}
 use Rattle.chdr_words.specs.declared.control.Control.{Control}
 use Rattle.chdr_words.specs.declared.management.MgmtOp.{MgmtOp}
 use Rattle.chdr_words.specs.declared.header.Header.{Header}
-use Rattle.chdr_words.proofs.WordLemmas.{Below, word_code, each_at-written}
+use Rattle.chdr_words.specs.Laws.{Below}
+use Rattle.chdr_words.proofs.Laws.{words_at-written}
 use Rattle.chdr_packets.specs.declared.packet.Packet.{Packet}
 use Rattle.chdr_packets.specs.declared.packet.Body.{Body}
 use Rattle.chdr_packets.specs.declared.packet.Body.TheVariants as bodies
@@ -66,7 +67,7 @@ mdata_words : (w : ℕ) (time : Option ℕ) (mdata payload pad : List ℕ) → B
 mdata_words w time mdata payload pad below =
     let behind : parts w time mdata payload pad ≡ head_of w time ++ (words_bytes mdata ++ (payload ++ pad)) =
     append_assoc (start_with w time mdata) payload pad ∙ append_assoc (head_of w time) (words_bytes mdata) (payload ++ pad) in
-    rw (behind, ← length-head w time) (each_at-written (to_le_bytes w64) word_at 8 (2 ^ 64) word_code mdata (head_of w time) (payload ++ pad) below)
+    rw (behind, ← length-head w time) (words_at-written mdata (head_of w time) (payload ++ pad) below)
 
 slice_between : (x y z : List ℕ) (i j : ℕ) → length x ≡ i → i + length y ≡ j → slice_range (x ++ y ++ z) i j ≡ y
 slice_between x y z i j e f =

@@ -50,7 +50,7 @@ impl Copyable for Body {
             },
             Body::Status(status) => Body::Status(*status),
             Body::Command(command) => Body::Command(*command),
-            Body::Control(control) => Body::Control(control.copy()?),
+            Body::Control(control) => Body::Control(control.copy()),
             Body::Management(management) => Body::Management(management.copy()?),
         })
     }

@@ -3,7 +3,8 @@ use Rattle.std.proofs.Common.{Bool, true, false, ◌≡◌, ℕ, zero, suc, ◌+
 use Rattle.std.specs.Prelude.{IsTrue}
 use Rattle.std.proofs.Math.Seq.{take-add, drop-append_seam}
 use Rattle.std.proofs.lemmas.List.{append-nil, length-drop, drop-drop, length-take-le, length-append, take-append-drop}
-use Rattle.chdr_words.proofs.ManagementReading.{IsBytes, small_take}
+use Rattle.chdr_words.specs.Laws.{IsBytes}
+use Rattle.chdr_words.proofs.Laws.{small_take}
 use Rattle.chdr_packets.specs.Grammar.{Spells, is_plain}
 use Rattle.chdr_packets.specs.Reading.{packet_read}
 use Rattle.chdr_packets.specs.declared.fault.PacketFault.{PacketFault}

@@ -3,7 +3,7 @@ use Rattle.std.proofs.Common.{Bool, true, false, cond, eqb, ne_eqb, ◌≡◌, �
 use Rattle.std.proofs.Math.Seq.{take-append_seam}
 use Rattle.std.proofs.lemmas.Bool.{eqb-true}
 use Rattle.std.proofs.lemmas.List.{append-nil, nil_from_length, length-append, length-take-le, take-append-drop}
-use Rattle.chdr_words.proofs.ManagementReading.{IsBytes}
+use Rattle.chdr_words.specs.Laws.{IsBytes}
 use Rattle.chdr_packets.specs.Grammar.{is_plain}
 use Rattle.chdr_packets.specs.Reading.{packet_read}
 use Rattle.chdr_packets.specs.declared.fault.PacketFault.{PacketFault}

@@ -1,7 +1,7 @@
 -- The fault shown of bytes is the first fault, by the captures among their fronts.
 use Rattle.std.proofs.Common.{◌≡◌, ℕ, ◌+◌, ◌≤◌, ◌⊎◌, inl, inr, List, [], ◌++◌, length, take, drop, Option, None, Some, Result, Ok, Err, refl, sym, ap, subst, ◌∙◌, arith}
 use Rattle.std.proofs.lemmas.List.{append-nil, nil_from_length, length-drop, length-take-le, take-append-drop, take_all}
-use Rattle.chdr_words.proofs.ManagementReading.{IsBytes}
+use Rattle.chdr_words.specs.Laws.{IsBytes}
 use Rattle.chdr_packets.specs.Reading.{packet_read}
 use Rattle.chdr_packets.specs.declared.fault.PacketFault.{PacketFault}
 use Rattle.chdr_packets.specs.declared.packet.Packet.{Packet}

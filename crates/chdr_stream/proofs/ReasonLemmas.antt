@@ -11,7 +11,7 @@ use Rattle.chdr_words.specs.declared.fault.MsgFault.{MsgFault}
 use Rattle.chdr_words.specs.declared.header.Header.{Header}
 use Rattle.chdr_words.specs.declared.header.PktType.{PktType}
 use Rattle.chdr_words.specs.declared.header.PktType.TheVariants as types
-use Rattle.chdr_words.proofs.ManagementReading.{IsBytes}
+use Rattle.chdr_words.specs.Laws.{IsBytes}
 use Rattle.chdr_packets.specs.Grammar.{start_of}
 use Rattle.chdr_packets.specs.Reading.{Gives, is_reserved, as_body, time_at, body_read, packed, opened, frame_read, packet_read}
 use Rattle.chdr_packets.specs.Refusals.{Refuses}

@@ -1,6 +1,6 @@
 -- The control payload: what is read is spelled so, what is spelled so is read, and what is written is spelled so.
-use Rattle.std.proofs.Common.{eq-eqb, ◌≡◌, ℕ, zero, suc, ◌+◌, ◌*◌, ◌<◌, ◌≤◌, ◌⊎◌, inl, inr, Bool, true, false, cond, eqb, List, Option, Some, None, Result, Ok, refl, sym, ap, subst, arith}
-use Rattle.std.specs.Prelude.{IfSome, IfOk, ◌||◌}
+use Rattle.std.proofs.Common.{eq-eqb, ◌≡◌, ℕ, zero, suc, ◌+◌, ◌*◌, ◌<◌, ◌≤◌, ◌⊎◌, inl, inr, Bool, true, false, cond, eqb, List, Option, Some, None, Result, Ok, Err, refl, sym, ap, subst, ◌∙◌, arith}
+use Rattle.std.specs.Prelude.{◌↔◌, IfSome, IfOk, ◌||◌}
 use Rattle.std.proofs.lemmas.Bool.{eqb-true}
 use Rattle.std.proofs.lemmas.Bool.Decides.{nat_tests}
 use Rattle.chdr_words.specs.Field.{field, word_at, half_at, halves_at}
@@ -12,7 +12,8 @@ use Rattle.chdr_words.specs.declared.control.CtrlOp.TheVariants as ops
 use Rattle.chdr_words.specs.declared.control.CtrlStatus.{CtrlStatus}
 use Rattle.chdr_words.specs.declared.control.CtrlStatus.TheVariants as statuses
 use Rattle.chdr_words.specs.declared.fault.MsgFault.{MsgFault}
-use Rattle.chdr_words.specs.Control.{FitsCtrlOp, SpellsControl, ctrl_status_number, ctrl_op_number, ctrl_status_of, ctrl_op_of, time_bit, told_time, told_count, control_sized, control_of, control_read}
+use Rattle.chdr_words.specs.declared.fault.MsgFault.TheVariants.{BadControlLength}
+use Rattle.chdr_words.specs.Control.{FitsCtrlOp, SpellsControl, SpellsNoControl, ctrl_status_number, ctrl_op_number, ctrl_status_of, ctrl_op_of, time_bit, told_time, told_count, control_sized, control_of, control_read}
 use Rattle.chdr_words.proofs.WordLemmas.{length-each_at}
 
 -- ---- flags and codes
@@ -167,3 +168,17 @@ control_reads bytes r e = subst (λ (x : Result Control MsgFault). IfOk x (λ c.
     cases : (b : Bool) → control_sized bytes ≡ b → IfOk (control_read bytes) (λ c. SpellsControl c bytes)
     cases true sized = rw sized (control_takes bytes sized)
     cases false sized = rw sized tt
+
+abbrev bad : Result Control MsgFault
+bad = Err BadControlLength
+
+bad_no : (c : Control) → bad ≡ Ok c → ⊥
+bad_no c e = absurd cc
+
+-- refused exactly if nothing is spelled
+pub control_refused : (bytes : List ℕ) → (control_read bytes ≡ Err BadControlLength) ↔ SpellsNoControl bytes
+control_refused bytes = (λ e c s. bad_no c (sym e ∙ control_again bytes c s), λ none. back none (control_sized bytes) refl)
+  where
+    back : SpellsNoControl bytes → (b : Bool) → control_sized bytes ≡ b → control_read bytes ≡ Err BadControlLength
+    back none true sized = absurd (none (control_of bytes) (control_takes bytes sized))
+    back none false sized = rw sized refl

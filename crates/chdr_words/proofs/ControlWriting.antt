@@ -17,7 +17,8 @@ use Rattle.chdr_words.specs.declared.control.CtrlStatus.{CtrlStatus}
 use Rattle.chdr_words.specs.declared.control.CtrlOp.TheVariants as ops
 use Rattle.chdr_words.specs.declared.control.CtrlStatus.TheVariants as statuses
 use Rattle.chdr_words.specs.Control.{FitsControl, FitsCtrlOp, SpellsControl, ctrl_status_number, ctrl_op_number, time_bit, told_time, told_count, control_size, control_plain, control_bytes, control_head, control_op, control_rest, time_spelled}
-use Rattle.chdr_words.proofs.WordLemmas.{each_at-written, half_code, Below}
+use Rattle.chdr_words.specs.Laws.{Below, Ranged}
+use Rattle.chdr_words.proofs.WordLemmas.{each_at-written, half_code}
 
 bit_below : (b : Bool) → bit_of b < 2
 bit_below true = omega arith
@@ -156,11 +157,6 @@ rest_zero true size time head op words e is =
     or_left _ _ (eq-eqb _ _ (length-whole time head op words [] ∙ rw is (omega arith)))
 rest_zero false size time head op words e is =
     or_right _ _ (eq-eqb _ _ (rest_read size time head op words is))
-
-pub record Ranged (c : Control) : Type 0 where
-  pub src : c.src.0 < 2 ^ 16
-  pub time : IfSome c.time (λ t. t < 2 ^ 64)
-  pub words : Below (2 ^ 32) c.words
 
 bit_of_time : (o : Option ℕ) → time_bit o < 2
 bit_of_time None = omega arith

@@ -5,3 +5,4 @@ pub mod ControlWriting
 pub mod ManagementLemmas
 pub mod ManagementReading
 pub mod PlainLemmas
+pub mod Laws

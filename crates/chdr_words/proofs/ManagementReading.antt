@@ -15,11 +15,9 @@ use Rattle.chdr_words.specs.declared.fault.MsgFault.{MsgFault}
 use Rattle.chdr_words.specs.declared.fault.MsgFault.TheVariants.{BadManagement}
 use Rattle.chdr_words.specs.declared.management.MgmtOp.{MgmtOp}
 use Rattle.chdr_words.specs.declared.management.Management.{Management}
-use Rattle.chdr_words.specs.Management.{FitsOp, FitsHop, FitsManagement, SpellsManagement, op_word, hop_words, hops_words, pending_of, op_of, runs_down, in_front, hops_of, words_of, hop_count, are_hops, management_formed, management_of, management_read, management_plain, management_head, management_words}
-use Rattle.chdr_words.proofs.WordLemmas.{Below, word_code, each_at-cons, each_at-none, each_at-written}
-
-abbrev pub IsBytes : List ℕ → Type 0
-IsBytes bytes = (i : ℕ) → get_or bytes i 0 < 256
+use Rattle.chdr_words.specs.Management.{FitsOp, FitsHop, FitsManagement, SpellsManagement, SpellsNoManagement, op_word, hop_words, hops_words, pending_of, op_of, runs_down, in_front, hops_of, words_of, hop_count, are_hops, management_formed, management_of, management_read, management_plain, management_head, management_words}
+use Rattle.chdr_words.specs.Laws.{Below, IsBytes}
+use Rattle.chdr_words.proofs.WordLemmas.{word_code, each_at-cons, each_at-none, each_at-written}
 
 abbrev one_if : Bool → ℕ
 one_if b = cond b 1 0
@@ -322,6 +320,15 @@ management_reads b (Ok m) fits given = cases (management_formed b) refl
 
 pub management_accepts : (b : List ℕ) (r : Result Management MsgFault) (m : Management) → SpellsManagement m b → Reads r (management_read b) → Reads r (Ok m)
 management_accepts b r m s given = subst (λ (x : Result Management MsgFault). Reads r x) (management_again b m s) given
+
+bad_no : (x : Management) → bad ≡ fine x → ⊥
+bad_no x e = absurd cc
+
+-- what is refused is no spelling
+pub management_refused : (b : List ℕ) (r : Result Management MsgFault) → Reads r (management_read b) → r ≡ Err BadManagement → SpellsNoManagement b
+management_refused b r given is = λ m s.
+    let read : management_read b ≡ bad = subst (λ (x : Result Management MsgFault). Reads x (management_read b)) is given in
+    bad_no m (sym read ∙ management_again b m s)
 
 -- ---- what is written
 

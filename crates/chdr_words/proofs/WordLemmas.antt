@@ -2,10 +2,11 @@
 use Rattle.std.proofs.Common.{◌≤◌, ◌∙◌, ℕ, zero, suc, add-one, add-zero, ◌≡◌, ◌+◌, ◌*◌, ◌^◌, ◌<◌, List, [], ◌∷◌, ◌++◌, length, get_or, drop, refl, sym, ap, append_assoc, arith}
 use Rattle.std.specs.Int.{w32, w64, from_le_bytes, to_le_bytes}
 use Rattle.std.proofs.lemmas.Nat.{from_le_bytes-to_le_bytes_4, from_le_bytes-to_le_bytes_8}
-use Rattle.std.specs.List.{flat_map, AllByRecursion}
+use Rattle.std.specs.List.{flat_map}
 use Rattle.std.proofs.lemmas.List.{get_or-drop, length-append, drop_at, drop-append-le, get_or_append_left, length-drop}
 use Rattle.std.proofs.lemmas.List.Concat.{flat_map-cons}
 use Rattle.chdr_words.specs.Field.{word_at, half_at, each_at, words_at}
+use Rattle.chdr_words.specs.Laws.{Below}
 
 -- a word's bytes spell it
 pub word_of : (bytes : List ℕ) (a : ℕ) → a < 2 ^ 64 → bytes ≡ to_le_bytes w64 a → from_le_bytes w64 bytes ≡ a
@@ -68,9 +69,6 @@ half_code = record {
   len = λ v. refl;
   back = λ front rest v wide. rw (drop_at front (to_le_bytes w32 v ++ rest) (length front) refl) (from_le_bytes-to_le_bytes_4 v wide);
 }
-
-abbrev pub Below : ℕ → List ℕ → Type 0
-Below limit words = AllByRecursion (λ word. word < limit) words
 
 -- words that were written are read back
 pub each_at-written : (encode : ℕ → List ℕ) (read : List ℕ → ℕ → ℕ) (size limit : ℕ) (code : IsCode encode read size limit)

@@ -16,9 +16,9 @@ FitsCmdOp (Other n) = (3 ≤ n) × (n < 2 ^ 4)
 
 -- each field fits its bits
 pub record FitsCommand (c : Command) : Type 0 where
-  pub op : FitsCmdOp c.op
-  pub op_data : c.op_data < 2 ^ 4
   pub packets : c.packets < 2 ^ 40
+  pub op_data : c.op_data < 2 ^ 4
+  pub op : FitsCmdOp c.op
 
 -- the operation's number on the wire
 abbrev pub cmd_number : CmdOp → ℕ
@@ -44,10 +44,10 @@ cmd_op_of n = if n == 0 then Init else if n == 1 then Ping else if n == 2 then R
 -- reading: each field from its bits
 abbrev pub command_of : List ℕ → Command
 command_of bytes = record {
-  op = cmd_op_of (field (word_at bytes 0) 19 16);
-  op_data = field (word_at bytes 0) 23 20;
-  src = record { 0 = field (word_at bytes 0) 15 0 };
   packets = field (word_at bytes 0) 63 24;
+  op_data = field (word_at bytes 0) 23 20;
+  op = cmd_op_of (field (word_at bytes 0) 19 16);
+  src = record { 0 = field (word_at bytes 0) 15 0 };
   bytes = word_at bytes 8;
 }
 

@@ -80,6 +80,10 @@ pub record SpellsControl (c : Control) (bytes : List ℕ) : Type 0 where
   pub addr : field (half_at bytes (8 + time_bytes c.time)) 19 0 ≡ c.addr
   pub words : halves_at bytes (12 + time_bytes c.time) (length c.words) ≡ c.words
 
+-- the bytes spell no control payload
+abbrev pub SpellsNoControl : List ℕ → Type 0
+SpellsNoControl bytes = (c : Control) → ¬ SpellsControl c bytes
+
 -- the bytes of the time that word 0 announces
 abbrev pub told_time : List ℕ → ℕ
 told_time bytes = 8 * field (word_at bytes 0) 30 30

@@ -9,3 +9,4 @@ pub mod Control
 pub mod Management
 pub mod Operation
 pub mod Reads
+pub mod Laws

@@ -9,8 +9,8 @@ use Rattle.chdr_words.specs.declared.management.MgmtOp.{MgmtOp}
 
 -- an operation fits its word
 pub record FitsOp (op : MgmtOp) : Type 0 where
-  pub code : op.code < 2 ^ 8
   pub payload : op.payload < 2 ^ 48
+  pub code : op.code < 2 ^ 8
 
 -- a hop has 1 to 256 operations
 pub record FitsHop (hop : List MgmtOp) : Type 0 where
@@ -47,6 +47,10 @@ pub record SpellsManagement (m : Management) (bytes : List ℕ) : Type 0 where
   pub hops : drop 8 bytes ≡ words_bytes (hops_words m.hops)
   pub each : All FitsHop m.hops
 
+-- the bytes spell no management payload
+abbrev pub SpellsNoManagement : List ℕ → Type 0
+SpellsNoManagement bytes = (m : Management) → ¬ SpellsManagement m bytes
+
 -- its reserved bits are zero
 abbrev pub management_plain : List ℕ → Bool
 management_plain bytes = field (word_at bytes 0) 44 26 == 0
@@ -57,7 +61,7 @@ pending_of word = field word 7 0
 
 -- the operation that a word spells
 abbrev pub op_of : ℕ → MgmtOp
-op_of word = record { code = field word 15 8; payload = field word 63 16 }
+op_of word = record { payload = field word 63 16; code = field word 15 8 }
 
 -- behind a word with so many pending the counts run down, and the last is 0
 abbrev pub runs_down : ℕ → List ℕ → Bool

@@ -37,8 +37,8 @@ node_kind_of n = if n == 1 then Crossbar else if n == 2 then Endpoint else if n 
 -- the information that a payload spells
 abbrev pub info_of : ℕ → NodeInfo
 info_of payload = record {
-  device = field payload 15 0;
-  kind = node_kind_of (field payload 19 16);
-  instance = field payload 29 20;
   extended = field payload 47 30;
+  instance = field payload 29 20;
+  kind = node_kind_of (field payload 19 16);
+  device = field payload 15 0;
 }

@@ -18,10 +18,10 @@ FitsStatusCode (Other n) = (5 ≤ n) × (n < 2 ^ 4)
 
 -- each field fits its bits
 pub record FitsStatus (s : Status) : Type 0 where
-  pub code : FitsStatusCode s.code
   pub cap_bytes : s.cap_bytes < 2 ^ 40
-  pub cap_packets : s.cap_packets < 2 ^ 24
+  pub code : FitsStatusCode s.code
   pub got_packets : s.got_packets < 2 ^ 40
+  pub cap_packets : s.cap_packets < 2 ^ 24
   pub info : s.info < 2 ^ 48
 
 -- the code's number on the wire
@@ -59,11 +59,11 @@ status_code_of n =
 -- reading: each field from its bits
 abbrev pub status_of : List ℕ → Status
 status_of bytes = record {
+  cap_bytes = field (word_at bytes 0) 63 24;
   code = status_code_of (field (word_at bytes 0) 19 16);
   src = record { 0 = field (word_at bytes 0) 15 0 };
-  cap_bytes = field (word_at bytes 0) 63 24;
-  cap_packets = field (word_at bytes 8) 23 0;
   got_packets = field (word_at bytes 8) 63 24;
+  cap_packets = field (word_at bytes 8) 23 0;
   got_bytes = word_at bytes 16;
   info = field (word_at bytes 24) 63 16;
   buffer = field (word_at bytes 24) 15 0;

@@ -1,8 +1,8 @@
-ghost use Rattle.std.specs.Prelude.{◌≡◌, ◌↔◌, ◌<◌, ◌^◌, IfOk, IsTrue};
+ghost use Rattle.std.specs.Prelude.{◌≡◌, ◌↔◌, ◌<◌, ◌^◌, ◌≢◌, length, IfOk, IsErrOf, IsTrue};
 ghost use Rattle.chdr_words.specs.Command.{FitsCmdOp, FitsCommand, SpellsCommand, cmd_number, cmd_op_of, command_read};
 
 use crate::bytes::{two_words, word_at};
-use crate::{Epid, MsgFault};
+use crate::{Epid, MsgFault, Word};
 
 /// What a stream command asks; the number is its code on the wire, 3 to 15 for `Other`.
 #[derive(Clone, Copy, Debug, PartialEq, Eq)]
@@ -25,12 +25,12 @@ pub enum CmdOp {
 /// Rule: docs/wire-format.md, "Stream command".
 #[derive(Clone, Copy, Debug, PartialEq, Eq)]
 pub struct Command {
-    pub op: CmdOp,
-    /// Data of the operation, below 16.
-    pub op_data: u8,
-    pub src: Epid,
     /// Packets: the frequency of INIT, the totals of RESYNC modulo 2^40.
     pub packets: u64,
+    /// Data of the operation, below 16.
+    pub op_data: u8,
+    pub op: CmdOp,
+    pub src: Epid,
     /// Bytes: the frequency of INIT, the totals of RESYNC modulo 2^64.
     pub bytes: u64,
 }
@@ -52,7 +52,7 @@ impl Command {
     pub fn fits(&self) -> bool
         ensures { IsTrue result ↔ FitsCommand self.now }
     {
-        self.op.fits() && self.op_data < 1 << 4 && self.packets < 1 << 40
+        self.packets < 1 << 40 && self.op_data < 1 << 4 && self.op.fits()
     }
 }
 
@@ -94,17 +94,18 @@ pub fn encode_command(v: &Command) -> [u8; 16]
 pub fn decode_command(b: &[u8]) -> Result<Command, MsgFault>
     ensures reads { IfOk result (λ c. SpellsCommand c b.now) }
     ensures accepts { (c : Command) → SpellsCommand c b.now → result ≡ Ok c }
+    ensures refuses { IsErrOf result MsgFault.BadCommandLength ↔ (length b.now ≢ 16) }
     ensures exact { result ≡ command_read b.now }
 {
     if b.len() != 16 {
         return Err(MsgFault::BadCommandLength);
     }
-    let first = word_at(b, 0);
+    let first = Word(word_at(b, 0));
     Ok(Command {
-        op: op_of((first / (1 << 16) % (1 << 4)) as u8),
-        op_data: (first / (1 << 20) % (1 << 4)) as u8,
-        src: Epid((first % (1 << 16)) as u16),
-        packets: first / (1 << 24),
+        packets: first.field(63, 24),
+        op_data: first.field(23, 20) as u8,
+        op: op_of(first.field(19, 16) as u8),
+        src: Epid(first.field(15, 0) as u16),
         bytes: word_at(b, 8),
     })
 }

@@ -1,11 +1,10 @@
-ghost use Rattle.std.specs.Prelude.{◌≡◌, ◌↔◌, ◌<◌, ◌≤◌, ◌^◌, ◌+◌, ◌*◌, ◌==◌, if◌then◌else◌, take, length, All, IfOk, IfSome, IsTrue};
-ghost use Rattle.chdr_words.specs.Control.{FitsControl, FitsCtrlOp, SpellsControl, control_bytes, control_head, control_op, control_plain, control_read, control_size, control_sized, told_count, told_time, ctrl_op_number, ctrl_op_of, ctrl_status_number, ctrl_status_of};
+ghost use Rattle.std.specs.Prelude.{◌≡◌, ◌↔◌, ◌<◌, ◌≤◌, ◌^◌, ◌+◌, ◌*◌, ◌==◌, if◌then◌else◌, take, length, All, IfOk, IfSome, IsErrOf, IsTrue};
+ghost use Rattle.chdr_words.specs.Control.{FitsControl, FitsCtrlOp, SpellsControl, SpellsNoControl, control_bytes, control_head, control_op, control_plain, control_read, control_size, control_sized, told_count, told_time, ctrl_op_number, ctrl_op_of, ctrl_status_number, ctrl_status_of};
 ghost use Rattle.chdr_words.specs.Field.{field, halves_at, word_at};
 ghost use Rattle.chdr_words.specs.Wire.{time_bytes, wire_size_of};
 
 use crate::bytes::{half_at, put_half, put_halves, put_word, word_at};
-use crate::{Epid, MsgFault, Words15};
-use rf_base::{Copyable, Memory};
+use crate::{Epid, MsgFault, Word, Words15};
 
 /// What an acknowledgement says of its request.
 #[derive(Clone, Copy, Debug, PartialEq, Eq)]
@@ -67,9 +66,12 @@ pub struct Control {
     pub words: Words15,
 }
 
-impl Copyable for Control {
-    fn copy(&self) -> Result<Control, Memory> {
-        Ok(Control {
+impl Control {
+    /// An equal one; it takes no memory.
+    pub fn copy(&self) -> Control
+        ensures { result ≡ self.now }
+    {
+        Control {
             src: self.src,
             ack: self.ack,
             time: self.time,
@@ -80,8 +82,21 @@ impl Copyable for Control {
             op: self.op,
             enables: self.enables,
             addr: self.addr,
-            words: self.words.copy()?,
-        })
+            words: self.words.copy(),
+        }
+    }
+
+    /// Whether each field fits its bits.
+    pub fn fits(&self) -> bool
+        ensures { IsTrue result ↔ FitsControl self.now }
+    {
+        self.seq < 1 << 6
+            && self.src_port < 1 << 10
+            && self.dst_port < 1 << 10
+            && self.op.fits()
+            && self.enables < 1 << 4
+            && self.addr < 1 << 20
+            && self.words.len() <= 15
     }
 }
 
@@ -101,21 +116,6 @@ impl CtrlOp {
             CtrlOp::Other(code) => 7 <= code && code < 10,
             CtrlOp::User(code) => 10 <= code && code < 16,
         }
-    }
-}
-
-impl Control {
-    /// Whether each field fits its bits.
-    pub fn fits(&self) -> bool
-        ensures { IsTrue result ↔ FitsControl self.now }
-    {
-        self.seq < 1 << 6
-            && self.src_port < 1 << 10
-            && self.dst_port < 1 << 10
-            && self.op.fits()
-            && self.enables < 1 << 4
-            && self.addr < 1 << 20
-            && self.words.len() <= 15
     }
 }
 
@@ -180,7 +180,7 @@ fn time_of(bytes: &[u8], first: u64) -> Option<u64>
     requires { field first 30 30 ≡ 1 → 16 ≤ length bytes.now }
     ensures { result ≡ (if field first 30 30 == 1 then Some (word_at bytes.now 8) else None) }
 {
-    if first / (1 << 30) % 2 == 1 {
+    if Word(first).field(30, 30) == 1 {
         Some(word_at(bytes, 8))
     } else {
         None
@@ -270,14 +270,14 @@ pub fn encode_control(v: &Control, out: &mut [u8; 80]) -> usize
 fn told_time(first: u64) -> usize
     ensures { result ≡ 8 * field first 30 30 }
 {
-    8 * (first / (1 << 30) % 2) as usize
+    8 * Word(first).field(30, 30) as usize
 }
 
 /// The words that word 0 announces, at most 15.
 fn told_count(first: u64) -> usize
     ensures { result ≡ field first 23 20 }
 {
-    (first / (1 << 20) % (1 << 4)) as usize
+    Word(first).field(23, 20) as usize
 }
 
 fn size_of(time: usize, count: usize) -> usize
@@ -318,8 +318,8 @@ pub fn is_plain_control(b: &[u8]) -> bool
     let first = word_at(b, 0);
     let time = told_time(first);
     let size = size_of(time, told_count(first));
-    first / (1 << 48) == 0
-        && half_at(b, 8 + time) / (1 << 28) % 4 == 0
+    Word(first).field(63, 48) == 0
+        && Word(half_at(b, 8 + time) as u64).field(29, 28) == 0
         && b.len() == rounded(size)
         && (b.len() == size || half_at(b, size) == 0)
 }
@@ -333,18 +333,19 @@ fn read(b: &[u8]) -> Result<Control, MsgFault>
     let first = word_at(b, 0);
     let time = told_time(first);
     let count = told_count(first);
-    let op = half_at(b, 8 + time);
+    let head = Word(first);
+    let op = Word(half_at(b, 8 + time) as u64);
     Ok(Control {
-        src: Epid((first / (1 << 32) % (1 << 16)) as u16),
-        ack: first / (1 << 31) % 2 == 1,
+        src: Epid(head.field(47, 32) as u16),
+        ack: head.field(31, 31) == 1,
         time: time_of(b, first),
-        seq: (first / (1 << 24) % (1 << 6)) as u8,
-        src_port: (first / (1 << 10) % (1 << 10)) as u16,
-        dst_port: (first % (1 << 10)) as u16,
-        status: status_of((op / (1 << 30)) as u8),
-        op: op_of((op / (1 << 24) % (1 << 4)) as u8),
-        enables: (op / (1 << 20) % (1 << 4)) as u8,
-        addr: op % (1 << 20),
+        seq: head.field(29, 24) as u8,
+        src_port: head.field(19, 10) as u16,
+        dst_port: head.field(9, 0) as u16,
+        status: status_of(op.field(31, 30) as u8),
+        op: op_of(op.field(27, 24) as u8),
+        enables: op.field(23, 20) as u8,
+        addr: op.field(19, 0) as u32,
         words: words_of(b, 12 + time, count),
     })
 }
@@ -353,6 +354,7 @@ fn read(b: &[u8]) -> Result<Control, MsgFault>
 pub fn decode_control(b: &[u8]) -> Result<Control, MsgFault>
     ensures reads { IfOk result (λ c. SpellsControl c b.now) }
     ensures accepts { (c : Control) → SpellsControl c b.now → result ≡ Ok c }
+    ensures refuses { IsErrOf result MsgFault.BadControlLength ↔ SpellsNoControl b.now }
     ensures exact { result ≡ control_read b.now }
 {
     read(b)

@@ -2,15 +2,21 @@ ghost use Rattle.std.specs.Prelude.{◌≡◌};
 ghost use Rattle.chdr_words.specs.declared.fault.MsgFault.TheVariants as faults;
 
 use rf_base::Memory;
+use thiserror::Error;
 
-/// Why a payload is no spelling of its kind.
-#[derive(Clone, Copy, Debug, PartialEq, Eq)]
+/// Why a payload is no spelling of its kind; each fault prints as its name in a listing.
+#[derive(Clone, Copy, Debug, PartialEq, Eq, Error)]
 pub enum MsgFault {
+    #[error("BadStatusLength")]
     BadStatusLength,
+    #[error("BadCommandLength")]
     BadCommandLength,
+    #[error("BadControlLength")]
     BadControlLength,
+    #[error("BadManagement")]
     BadManagement,
-    /// Want of memory; only a management payload takes any.
+    /// Only a management payload takes memory.
+    #[error("out of memory")]
     Memory,
 }
 

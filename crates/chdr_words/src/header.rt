@@ -103,16 +103,15 @@ impl Header {
     pub fn read(word: Word) -> Header
         ensures { result ≡ header_of word.0 }
     {
-        let word = word.0;
         Header {
-            vc: (word / (1 << 58)) as u8,
-            eob: word / (1 << 57) % 2 == 1,
-            eov: word / (1 << 56) % 2 == 1,
-            pkt_type: type_of((word / (1 << 53) % (1 << 3)) as u8),
-            num_mdata: (word / (1 << 48) % (1 << 5)) as u8,
-            seq: (word / (1 << 32) % (1 << 16)) as u16,
-            length: (word / (1 << 16) % (1 << 16)) as u16,
-            dst: Epid((word % (1 << 16)) as u16),
+            vc: word.field(63, 58) as u8,
+            eob: word.field(57, 57) == 1,
+            eov: word.field(56, 56) == 1,
+            pkt_type: type_of(word.field(55, 53) as u8),
+            num_mdata: word.field(52, 48) as u8,
+            seq: word.field(47, 32) as u16,
+            length: word.field(31, 16) as u16,
+            dst: Epid(word.field(15, 0) as u16),
         }
     }
 

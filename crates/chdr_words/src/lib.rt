@@ -7,6 +7,7 @@ mod control;
 mod epid;
 mod fault;
 mod header;
+pub mod law;
 mod lists;
 mod management;
 mod node_info;

@@ -1,11 +1,11 @@
-ghost use Rattle.std.specs.Prelude.{◌≡◌, ◌↔◌, ◌<◌, ◌≤◌, ◌^◌, ◌+◌, ◌==◌, ◌||◌, if◌then◌else◌, ◌++◌, length, All, IfOk, OnOk, IsTrue};
+ghost use Rattle.std.specs.Prelude.{◌≡◌, ◌↔◌, ◌<◌, ◌≤◌, ◌^◌, ◌+◌, ◌==◌, ◌||◌, if◌then◌else◌, ◌++◌, length, All, IfOk, IsErrOf, OnOk, IsTrue};
 ghost use Rattle.std.specs.List.{sum_by};
 ghost use Rattle.chdr_words.specs.Field.{words_bytes};
-ghost use Rattle.chdr_words.specs.Management.{FitsHop, FitsManagement, FitsOp, SpellsManagement, hop_words, are_hops, hops_of, management_formed, management_plain, management_read, management_words, op_of, op_word, words_of};
+ghost use Rattle.chdr_words.specs.Management.{FitsHop, FitsManagement, FitsOp, SpellsManagement, SpellsNoManagement, hop_words, are_hops, hops_of, management_formed, management_plain, management_read, management_words, op_of, op_word, words_of};
 ghost use Rattle.chdr_words.specs.Reads.{Reads};
 
 use crate::bytes::word_at;
-use crate::{Bytes, Epid, Hop, HopList, MsgFault};
+use crate::{Bytes, Epid, Hop, HopList, MsgFault, Word};
 use rf_base::{Copyable, Items, Memory};
 use std::alloc::Global;
 
@@ -19,8 +19,8 @@ use std::alloc::Global;
 /// Rule: docs/wire-format.md, "Operations".
 #[derive(Clone, Copy, Debug, PartialEq, Eq)]
 pub struct MgmtOp {
-    pub code: u8,
     pub payload: u64,
+    pub code: u8,
 }
 
 impl Copyable for MgmtOp {
@@ -98,9 +98,10 @@ impl Management {
 fn op_of(word: u64) -> MgmtOp
     ensures { result ≡ op_of word }
 {
+    let word = Word(word);
     MgmtOp {
-        code: (word / (1 << 8) % (1 << 8)) as u8,
-        payload: word / (1 << 16),
+        payload: word.field(63, 16),
+        code: word.field(15, 8) as u8,
     }
 }
 
@@ -112,7 +113,7 @@ pub fn is_management(b: &[u8]) -> bool
     if b.len() < 8 || b.len() % 8 != 0 {
         return false;
     }
-    let count = (word_at(b, 0) / (1 << 16) % (1 << 10)) as usize;
+    let count = Word(word_at(b, 0)).field(25, 16) as usize;
     hops_run_down(b, count)
 }
 
@@ -133,7 +134,7 @@ pub fn is_plain_management(b: &[u8]) -> bool
     requires { 8 ≤ length b.now }
     ensures { result ≡ management_plain b.now }
 {
-    word_at(b, 0) / (1 << 26) % (1 << 19) == 0
+    Word(word_at(b, 0)).field(44, 26) == 0
 }
 
 fn follows(pending: u64, next: u64) -> bool
@@ -196,12 +197,12 @@ fn read(alloc: Global, b: &[u8]) -> Result<Management, MsgFault>
     if !is_management(b) {
         return Err(MsgFault::BadManagement);
     }
-    let first = word_at(b, 0);
+    let first = Word(word_at(b, 0));
     let hops = hops_of(alloc, b)?;
     Ok(Management {
-        version: (first / (1 << 48)) as u16,
-        width: (first / (1 << 45) % (1 << 3)) as u8,
-        src: Epid((first % (1 << 16)) as u16),
+        version: first.field(63, 48) as u16,
+        width: first.field(47, 45) as u8,
+        src: Epid(first.field(15, 0) as u16),
         hops,
     })
 }
@@ -210,6 +211,7 @@ fn read(alloc: Global, b: &[u8]) -> Result<Management, MsgFault>
 pub fn decode_management(alloc: Global, b: &[u8]) -> Result<Management, MsgFault>
     ensures reads { IfOk result (λ m. SpellsManagement m b.now) }
     ensures accepts { (m : Management) → SpellsManagement m b.now → Reads result (Ok m) }
+    ensures refuses { IsErrOf result MsgFault.BadManagement → SpellsNoManagement b.now }
     ensures exact { Reads result (management_read b.now) }
 {
     read(alloc, b)

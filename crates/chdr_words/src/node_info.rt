@@ -24,12 +24,12 @@ pub enum NodeKind {
 /// Rule: docs/wire-format.md, "Node information".
 #[derive(Clone, Copy, Debug, PartialEq, Eq)]
 pub struct NodeInfo {
-    pub device: u16,
-    pub kind: NodeKind,
-    /// Below 1,024.
-    pub instance: u16,
     /// What the kind tells besides, below 2^18.
     pub extended: u32,
+    /// Below 1,024.
+    pub instance: u16,
+    pub kind: NodeKind,
+    pub device: u16,
 }
 
 /// A configuration address and its value, in the 48 bits of one operation's payload.
@@ -42,8 +42,8 @@ pub struct NodeInfo {
 /// Rule: docs/wire-format.md, "Configuration".
 #[derive(Clone, Copy, Debug, PartialEq, Eq)]
 pub struct Cfg {
-    pub addr: u16,
     pub value: u32,
+    pub addr: u16,
 }
 
 impl NodeKind {

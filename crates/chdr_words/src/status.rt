@@ -1,8 +1,8 @@
-ghost use Rattle.std.specs.Prelude.{◌≡◌, ◌↔◌, ◌<◌, ◌^◌, length, IfOk, IsTrue};
+ghost use Rattle.std.specs.Prelude.{◌≡◌, ◌↔◌, ◌<◌, ◌^◌, ◌≢◌, length, IfOk, IsErrOf, IsTrue};
 ghost use Rattle.chdr_words.specs.Status.{FitsStatus, FitsStatusCode, SpellsStatus, status_code_of, status_number, status_plain, status_read};
 
 use crate::bytes::{four_words, word_at};
-use crate::{Epid, MsgFault};
+use crate::{Epid, MsgFault, Word};
 
 /// What a stream status reports; the number is its code on the wire, 5 to 15 for `Other`.
 #[derive(Clone, Copy, Debug, PartialEq, Eq)]
@@ -31,15 +31,15 @@ pub enum StatusCode {
 /// Rule: docs/wire-format.md, "Stream status".
 #[derive(Clone, Copy, Debug, PartialEq, Eq)]
 pub struct Status {
+    /// The receiver's buffer in bytes, below 2^40.
+    pub cap_bytes: u64,
     pub code: StatusCode,
     /// The receiver's EPID.
     pub src: Epid,
-    /// The receiver's buffer in bytes, below 2^40.
-    pub cap_bytes: u64,
-    /// The receiver's buffer in packets, below 2^24.
-    pub cap_packets: u32,
     /// Packets transferred, modulo 2^40.
     pub got_packets: u64,
+    /// The receiver's buffer in packets, below 2^24.
+    pub cap_packets: u32,
     /// Bytes transferred, modulo 2^64.
     pub got_bytes: u64,
     /// What the code tells besides, below 2^48.
@@ -69,10 +69,10 @@ impl Status {
     pub fn fits(&self) -> bool
         ensures { IsTrue result ↔ FitsStatus self.now }
     {
-        self.code.fits()
-            && self.cap_bytes < 1 << 40
-            && self.cap_packets < 1 << 24
+        self.cap_bytes < 1 << 40
+            && self.code.fits()
             && self.got_packets < 1 << 40
+            && self.cap_packets < 1 << 24
             && self.info < 1 << 48
     }
 }
@@ -124,29 +124,30 @@ pub fn is_plain_status(b: &[u8]) -> bool
     requires { length b.now ≡ 32 }
     ensures { result ≡ status_plain b.now }
 {
-    word_at(b, 0) / (1 << 20) % (1 << 4) == 0
+    Word(word_at(b, 0)).field(23, 20) == 0
 }
 
 /// The status that the payload spells; each payload of the right size spells one.
 pub fn decode_status(b: &[u8]) -> Result<Status, MsgFault>
     ensures reads { IfOk result (λ s. SpellsStatus s b.now) }
     ensures accepts { (s : Status) → SpellsStatus s b.now → result ≡ Ok s }
+    ensures refuses { IsErrOf result MsgFault.BadStatusLength ↔ (length b.now ≢ 32) }
     ensures exact { result ≡ status_read b.now }
 {
     if b.len() != 32 {
         return Err(MsgFault::BadStatusLength);
     }
-    let first = word_at(b, 0);
-    let second = word_at(b, 8);
-    let fourth = word_at(b, 24);
+    let first = Word(word_at(b, 0));
+    let second = Word(word_at(b, 8));
+    let fourth = Word(word_at(b, 24));
     Ok(Status {
-        code: code_of((first / (1 << 16) % (1 << 4)) as u8),
-        src: Epid((first % (1 << 16)) as u16),
-        cap_bytes: first / (1 << 24),
-        cap_packets: (second % (1 << 24)) as u32,
-        got_packets: second / (1 << 24),
+        cap_bytes: first.field(63, 24),
+        code: code_of(first.field(19, 16) as u8),
+        src: Epid(first.field(15, 0) as u16),
+        got_packets: second.field(63, 24),
+        cap_packets: second.field(23, 0) as u32,
         got_bytes: word_at(b, 16),
-        info: fourth / (1 << 16),
-        buffer: (fourth % (1 << 16)) as u16,
+        info: fourth.field(63, 16),
+        buffer: fourth.field(15, 0) as u16,
     })
 }

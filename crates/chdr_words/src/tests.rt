@@ -18,7 +18,7 @@ fn words_and_lists_are_copied(rt: HostRuntime) -> Result<(), Fail> {
     let mut words = Words15::new();
     words.push(17);
     words.push(34);
-    assert_eq!(rt; words.copy()?, words);
+    assert_eq!(rt; words.copy(), words);
     let mut epids = Items::new(rt.alloc());
     epids.push(Epid(5))?;
     assert_eq!(rt; epids.copy()?, epids);

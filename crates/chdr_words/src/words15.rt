@@ -1,6 +1,5 @@
 ghost use Rattle.std.specs.Prelude.{◌≡◌, ◌==◌, ◌<◌, [], ◌∷◌, ◌++◌, length};
 
-use rf_base::{Copyable, Memory};
 use std::marker::Model;
 
 /// At most 15 words of 32 bits, which contracts see as a list; no call takes memory.
@@ -48,21 +47,22 @@ impl Words15 {
         &self.words[..self.len]
     }
 
+    /// An equal list; it takes no memory.
+    pub fn copy(&self) -> Words15
+        ensures { result ≡ self.now }
+    {
+        Words15 {
+            words: self.words,
+            len: self.len,
+        }
+    }
+
     pub fn push(&mut self, item: u32)
         requires { length self.old < 15 }
         ensures { self.new ≡ self.old ++ item ∷ [] }
     {
         self.words[self.len] = item;
         self.len += 1;
-    }
-}
-
-impl Copyable for Words15 {
-    fn copy(&self) -> Result<Words15, Memory> {
-        Ok(Words15 {
-            words: self.words,
-            len: self.len,
-        })
     }
 }
 

@@ -2,7 +2,8 @@ use Rattle.std.proofs.Common.{ℕ, ◌<◌, ◌^◌, List, subst, sym}
 use Rattle.std.specs.Prelude.{IsTrue}
 use Rattle.std.proofs.lemmas.List.Elements.{recursion_from_All}
 use Rattle.chdr_words.specs.Control.{SpellsControl, control_plain}
-use Rattle.chdr_words.proofs.ControlWriting.{Ranged, control_spelled}
+use Rattle.chdr_words.specs.Laws.{Ranged}
+use Rattle.chdr_words.proofs.ControlWriting.{control_spelled}
 use Rattle.chdr_words.proofs.control.encode_control.Goals as goal
 
 pub returns-clause-spells : goal.returns-clause-spells
