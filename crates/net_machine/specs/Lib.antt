@@ -16,4 +16,5 @@ pub mod Choice
 pub mod Tallies
 pub mod Plain
 pub mod CanBegin
+pub mod Promises
 pub mod Laws

@@ -1,5 +1,5 @@
 -- The nodes of a network: where packets leave them, and what answers at the ports of an endpoint.
-use Rattle.std.specs.Prelude.{ℕ, zero, suc, ◌+◌, ◌^◌, ◌==◌, Bool, true, false, List, [], Option, None, Some, slice_get, is_some, unwrap_or, if◌then◌else◌}
+use Rattle.std.specs.Prelude.{ℕ, ◌==◌, Bool, true, false, List, [], Option, None, Some, slice_get, is_some, unwrap_or, if◌then◌else◌}
 use Rattle.std.specs.Option.{option_and_then, option_map_or}
 use Rattle.block_library.specs.Memory.{block_registers}
 use Rattle.block_registers.specs.Operations.{Place as Port, Nowhere, Fixed}
@@ -10,7 +10,8 @@ use Rattle.net_nodes.specs.Table.{exit_of}
 use Rattle.net_nodes.specs.declared.site.Site.{Site}
 use Rattle.net_topology.specs.Leads.{Exits, has_table}
 use Rattle.net_topology.specs.Links.{link_at}
-use Rattle.net_topology.specs.Tree.{epid_at}
+use Rattle.net_topology.specs.Ports.{link_bits}
+use Rattle.net_topology.specs.Tree.{epid_at, node_with}
 use Rattle.net_topology.specs.declared.plan.NodePlan.{NodePlan}
 use Rattle.net_topology.specs.declared.plan.NodePlan.TheVariants.{Crossbar, Adapter, Host, Endpoint}
 use Rattle.net_topology.specs.declared.plan.Plan.{Plan}
@@ -52,6 +53,18 @@ is_host_at tree x = option_map_or is_host (planned tree x) false
 abbrev pub exits_of : List Node → Exits
 exits_of nodes x epid = exit_of (node_in nodes x).table epid
 
+-- the entry of node x for an EPID, if it has a table and an entry
+abbrev pub entry_at : Plan → List Node → ℕ → Epid → Option ℕ
+entry_at tree nodes x epid = if is_switch tree x then exits_of nodes x epid else None
+
+-- node x with whether its port has a link, if it is a host
+abbrev pub host_at : Plan → ℕ → Option (ℕ × Bool)
+host_at tree x = if is_host_at tree x then Some (x, is_some (link_at tree.links x 0)) else None
+
+-- the same of the node with an EPID
+abbrev pub host_with : Plan → Epid → Option (ℕ × Bool)
+host_with tree epid = option_and_then (host_at tree) (node_with tree.nodes epid)
+
 -- the directed link by which a packet that begins at node x goes to an EPID: by the table, or by the only port
 abbrev pub route_from : Plan → List Node → ℕ → Epid → Option ℕ
 route_from tree nodes x dst =
@@ -59,18 +72,12 @@ route_from tree nodes x dst =
     then option_and_then (link_at tree.links x) (exits_of nodes x dst)
     else link_at tree.links x 0
 
--- the bits of the ports below n that have a link
-abbrev pub link_bits : Plan → ℕ → ℕ → ℕ
-link_bits tree x zero = 0
-link_bits tree x (suc port) =
-    link_bits tree x port + (if is_some (link_at tree.links x port) then 2 ^ port else 0)
-
 -- node x as the operations of a hop see it, where the packet came by this port
 abbrev pub site_by : Plan → ℕ → ℕ → NodePlan → Site
 site_by tree x port (Crossbar ports) =
-    crossbar_site (record { instance = x; ports = ports; linked = link_bits tree x ports; table = [] }) port
+    crossbar_site (record { instance = x; ports = ports; linked = link_bits tree.links x ports; table = [] }) port
 site_by tree x port Adapter =
-    adapter_site (record { instance = x; ports = 2; linked = link_bits tree x 2; table = [] }) port
+    adapter_site (record { instance = x; ports = 2; linked = link_bits tree.links x 2; table = [] }) port
 site_by tree x port (Host epid) = end_site (record { instance = x; epid = epid })
 site_by tree x port (Endpoint epid bank) = end_site (record { instance = x; epid = epid })
 

@@ -14,3 +14,6 @@ pub use law::{a_place_that_is_not_there_is_blank, queues_are_numbered};
 pub use plan::{BlockPlan, BlockPlans, RunPlan, StreamPlan, StreamPlans};
 pub use seed::Seed;
 pub use tally::{Ends, StreamEnd, Tallies, Tally};
+
+#[cfg(test)]
+mod tests;

@@ -1,0 +1,7 @@
+pub mod Networks
+pub mod Journal
+pub mod Credit
+pub mod Numbers
+pub mod Losses
+pub mod Blocks
+pub mod Hosts
