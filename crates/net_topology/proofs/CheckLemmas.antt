@@ -9,8 +9,7 @@ use Rattle.net_topology.specs.declared.plan.NodePlan.{NodePlan}
 use Rattle.net_topology.specs.declared.plan.Plan.{Plan}
 use Rattle.net_topology.specs.Links.{link_of, IsJoined, IsWay}
 use Rattle.net_topology.specs.Parts.{way_over, way_of, IsRow, HasRows}
-use Rattle.net_topology.specs.Mapped.{IsMapped}
-use Rattle.net_topology.specs.Tree.{FitsPlan, IsTree, ports_of, port_count, SoundBelow}
+use Rattle.net_topology.specs.Tree.{IsTree, ports_of, port_count, SoundBelow}
 use Rattle.net_topology.specs.Ranks.{count_below}
 use Rattle.net_topology.proofs.PartLemmas.{part_of-walk}
 use Rattle.net_topology.proofs.WayLemmas.{Forest, way_over_walks, way_over_is_way}
@@ -66,12 +65,6 @@ HasRows-push plan k rows row r n =
                 subst (IsRow plan j) (sym (ap (λ i. slice_index_or (rows ++ row ∷ []) i []) e ∙ get_or-append_seam rows row [] [])) (subst (λ i. IsRow plan i row) f n)
           ];
     }
-
--- what a topology keeps
-pub mapped : (plan : Plan) (rows : List (List ℕ)) → FitsPlan plan → IsTree plan → HasRows plan (length plan.links) rows → IsMapped plan rows
-mapped plan rows fits tree parts =
-    let few : length plan.links ≤ length plan.nodes = links_few plan (length plan.links) tree.links in
-    record { checked = record { fits = fits; tree = tree }; parts = parts; few = omega (arith, tree.nodes.few, fits.limit) }
 
 -- in a checked plan the program's walk is a way
 pub way_of_is_way : (plan : Plan) (a b : ℕ) → IsTree plan → a < length plan.nodes → b < length plan.nodes → IsWay plan.links a b (way_of plan.links a b)

@@ -8,10 +8,12 @@ pub mod FaultLemmas
 pub mod LawLemmas
 pub mod Laws
 pub mod LinkLemmas
+pub mod NextLemmas
 pub mod PartLemmas
 pub mod PortLemmas
 pub mod RankLemmas
 pub mod RouteLemmas
 pub mod UniqueLemmas
+pub mod UpLemmas
 pub mod WalkLemmas
 pub mod WayLemmas

@@ -2,6 +2,7 @@ pub mod Laws
 pub mod Leads
 pub mod Links
 pub mod Mapped
+pub mod Next
 pub mod Parts
 pub mod Ports
 pub mod Ranks

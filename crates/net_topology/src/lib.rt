@@ -5,6 +5,7 @@ mod check;
 pub mod law;
 mod plan;
 mod topology;
+mod ups;
 
 pub use check::PlanFault;
 pub use plan::{LinkList, LinkNumbers, LinkPlan, NodeList, NodePlan, Plan};

@@ -62,8 +62,7 @@ fn fault_of(
 
 /// The way between two nodes, or no link where one isn't there.
 fn way(alloc: Global, topology: &Topology, a: u16, b: u16) -> Result<LinkNumbers, Memory> {
-    let count = topology.plan().nodes.len();
-    if (a as usize) < count && (b as usize) < count {
+    if topology.has_node(a) && topology.has_node(b) {
         topology.path(a, b)
     } else {
         Ok(Items::new(alloc))
@@ -253,18 +252,49 @@ fn an_earlier_link_is_refused_before_a_later_one(rt: HostRuntime) -> Result<(), 
     Ok(())
 }
 
-/// A line of 64 adapters: node k is linked to node k + 1.
-fn line(alloc: Global) -> Result<Topology, PlanFault> {
-    let mut plan = plan(alloc, &[NodePlan::Adapter; 64], &[], 4)?;
-    for k in 0u16..63 {
-        plan.links.push(link((k, 1, k + 1, 0)))?;
+/// A line of up to 256 adapters: node k is linked to node k + 1.
+fn line(alloc: Global, nodes: u16) -> Result<Topology, PlanFault> {
+    let mut plan = plan(alloc, &[], &[], 4)?;
+    plan.limit = 256;
+    for k in 0..nodes.min(256) {
+        plan.nodes.push(NodePlan::Adapter)?;
+        if k > 0 {
+            plan.links.push(link((k - 1, 1, k, 0)))?;
+        }
     }
     checked(alloc, &plan)
 }
 
+/// The first link of the way between two nodes, if there is one.
+fn next(topology: &Topology, a: u16, b: u16) -> Option<u16> {
+    if topology.has_node(a) && topology.has_node(b) {
+        topology.next(a, b)
+    } else {
+        None
+    }
+}
+
+#[test]
+fn the_first_links_along_a_line_of_256_nodes(rt: HostRuntime) -> Result<(), Fail> {
+    let line = line(rt.alloc(), 256).map_err(|_| Memory)?;
+    for a in 0u16..256 {
+        for b in 0u16..256 {
+            let wanted = if a == b {
+                None
+            } else if a < b {
+                Some(2 * a)
+            } else {
+                Some(2 * a - 1)
+            };
+            assert_eq!(rt; next(&line, a, b), wanted, "from {a} to {b}");
+        }
+    }
+    Ok(())
+}
+
 #[test]
 fn the_way_along_a_line_is_every_link(rt: HostRuntime) -> Result<(), Fail> {
-    let line = line(rt.alloc()).map_err(|_| Memory)?;
+    let line = line(rt.alloc(), 64).map_err(|_| Memory)?;
     let there = way(rt.alloc(), &line, 0, 63)?;
     assert_eq!(rt; there.len(), 63);
     for (k, link) in there.as_slice().iter().enumerate() {
@@ -275,7 +305,7 @@ fn the_way_along_a_line_is_every_link(rt: HostRuntime) -> Result<(), Fail> {
 
 #[test]
 fn the_way_back_along_a_line_is_every_link_back(rt: HostRuntime) -> Result<(), Fail> {
-    let line = line(rt.alloc()).map_err(|_| Memory)?;
+    let line = line(rt.alloc(), 64).map_err(|_| Memory)?;
     let back = way(rt.alloc(), &line, 63, 0)?;
     assert_eq!(rt; back.len(), 63);
     for (k, link) in back.as_slice().iter().rev().enumerate() {
@@ -286,7 +316,7 @@ fn the_way_back_along_a_line_is_every_link_back(rt: HostRuntime) -> Result<(), F
 
 #[test]
 fn the_way_to_the_same_node_is_empty(rt: HostRuntime) -> Result<(), Fail> {
-    let line = line(rt.alloc()).map_err(|_| Memory)?;
+    let line = line(rt.alloc(), 64).map_err(|_| Memory)?;
     assert_eq!(rt; way(rt.alloc(), &line, 7, 7)?.len(), 0);
     Ok(())
 }
@@ -316,6 +346,7 @@ fn the_ways_of_a_star_cross_its_middle(rt: HostRuntime) -> Result<(), Fail> {
 #[test]
 fn a_port_has_a_neighbour_if_it_has_a_link(rt: HostRuntime) -> Result<(), Fail> {
     let star = star(rt.alloc()).map_err(|_| Memory)?;
+    assert_eq!(rt; star.has_link(63) && !star.has_link(64), true);
     assert_eq!(rt; star.neighbour(0, 31), Some((32, 0)));
     assert_eq!(rt; star.neighbour(32, 0), Some((0, 31)));
     assert_eq!(rt; star.neighbour(0, 32), None);

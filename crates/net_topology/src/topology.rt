@@ -1,9 +1,11 @@
-ghost use Rattle.std.specs.Prelude.{◌≡◌, ◌↔◌, ◌==◌, ◌+◌, ◌*◌, ◌<◌, ◌≤◌, ◌++◌, ℕ, IsTrue, length, IfOk, OnOk, IfErr, IfSome};
-ghost use Rattle.net_topology.specs.Links.{IsWay, start_of, end_of, start_port, end_port, link_of, link_at, neighbour_at};
-ghost use Rattle.net_topology.specs.Parts.{part_of, way_over, way_of};
+ghost use Rattle.std.specs.Prelude.{◌≡◌, ◌↔◌, ◌-◌, ◌*◌, ◌^◌, ◌<◌, [], ◌∷◌, IsTrue, MatchOption, length, IfOk, IfErr, IfSome};
+ghost use Rattle.net_topology.specs.Links.{IsWay, back_of, start_of, end_of, start_port, end_port, link_of, link_at, neighbour_at};
+ghost use Rattle.net_topology.specs.Parts.{way_of};
+ghost use Rattle.net_topology.specs.Next.{next_of};
 ghost use Rattle.net_topology.specs.Tree.{FitsPlan, IsTree, IsChecked, IsFault, node_with};
 
 use crate::check::check_tree;
+use crate::ups::first_ups;
 use crate::{LinkNumbers, LinkPlan, NodePlan, Plan, PlanFault};
 use chdr_words::Epid;
 use rf_base::{Copyable, Items, Memory};
@@ -14,8 +16,8 @@ use std::marker::Model;
 #[derive(Debug, Drop)]
 pub struct Topology {
     plan: Plan,
-    /// The part of each node before the first link, and after each link.
-    rows: Items<Items<u16>>,
+    /// The first directed link of each node's way to node 0.
+    ups: Items<Option<u16>>,
     alloc: Global,
 }
 
@@ -27,7 +29,7 @@ impl Model for Topology {
 
     ghost view = { λ topology. topology.plan };
 
-    ghost invariant = { λ topology. IsMapped topology.plan topology.rows };
+    ghost invariant = { λ topology. IsMapped topology.plan topology.ups };
 }
 
 impl Topology {
@@ -40,8 +42,9 @@ impl Topology {
         ensures fault { IfErr result (IsFault plan.now) }
     {
         let rows = check_tree(alloc, plan)?;
+        let ups = first_ups(alloc, plan, rows.as_slice())?;
         let plan = plan.copy()?;
-        Ok(Topology { plan, rows, alloc })
+        Ok(Topology { plan, ups, alloc })
     }
 
     /// The plan that was checked.
@@ -94,6 +97,34 @@ impl Topology {
         }
     }
 
+    /// The first directed link of the way from node a to node b; none from a node to itself.
+    ///
+    /// It follows the links that lead from b to node 0, and so takes at most as many steps as the
+    /// way there has links.
+    pub fn next(&self, a: u16, b: u16) -> Option<u16>
+        requires a { a < length self.now.nodes }
+        requires b { b < length self.now.nodes }
+        ensures value { result ≡ next_of self.now.links a b }
+        ensures there { IfSome result (λ d. d < 2 * length self.now.links) }
+        ensures way { MatchOption result
+            (way_of self.now.links a b ≡ [])
+            (λ d. way_of self.now.links a b ≡ d ∷ way_of self.now.links (end_of self.now.links d) b) }
+    {
+        let _ = &self.plan;
+        if a == b {
+            return None;
+        }
+        let mut node = b;
+        while let Some(up) = self.up(node) {
+            let (parent, _) = self.end_at(up);
+            if parent == a {
+                return Some(back_of(up));
+            }
+            node = parent;
+        }
+        self.up(a)
+    }
+
     /// The directed links from node a to node b; no node is passed twice.
     pub fn path(&self, a: u16, b: u16) -> Result<LinkNumbers, Memory>
         requires a { a < length self.now.nodes }
@@ -102,8 +133,20 @@ impl Topology {
         ensures way { IfOk result (λ way. IsWay self.now.links a b way) }
     {
         let mut way = Items::new(self.alloc);
-        self.extend_way(self.plan.links.len(), a, b, &mut way)?;
+        let mut node = a;
+        while let Some(d) = self.next(node, b) {
+            way.push(d)?;
+            node = self.end_at(d).0;
+        }
         Ok(way)
+    }
+
+    /// The first directed link of a node's way to node 0.
+    fn up(&self, node: u16) -> Option<u16>
+        requires { node < length self.now.nodes }
+        ensures { result ≡ next_of self.now.links node 0 }
+    {
+        self.ups.as_slice()[node as usize]
     }
 
     /// Link k, whose nodes are there.
@@ -115,46 +158,6 @@ impl Topology {
         ensures few { k < 256 }
     {
         self.plan.links.as_slice()[k]
-    }
-
-    /// Whether the first k links join the two nodes.
-    fn is_joined(&self, k: usize, a: u16, b: u16) -> bool
-        requires links { k ≤ length self.now.links }
-        requires a { a < length self.now.nodes }
-        requires b { b < length self.now.nodes }
-        ensures { result ≡ (part_of self.now.links k a == part_of self.now.links k b) }
-    {
-        let row = self.rows.as_slice()[k].as_slice();
-        row[a as usize] == row[b as usize]
-    }
-
-    /// Appends the way over the first k links.
-    fn extend_way(&self, k: usize, a: u16, b: u16, way: &mut LinkNumbers) -> Result<(), Memory>
-        requires links { k ≤ length self.now.links }
-        requires a { a < length self.now.nodes }
-        requires b { b < length self.now.nodes }
-        ensures { OnOk result (way.new ≡ way.old ++ way_over self.now.links k a b) }
-    {
-        if k == 0 {
-            return Ok(());
-        }
-        let before = k - 1;
-        if self.is_joined(before, a, b) {
-            self.extend_way(before, a, b, way)?;
-            return Ok(());
-        }
-        let link = self.link(before);
-        let number = 2 * before as u16;
-        if self.is_joined(before, a, link.a) {
-            self.extend_way(before, a, link.a, way)?;
-            way.push(number)?;
-            self.extend_way(before, link.b, b, way)?;
-            return Ok(());
-        }
-        self.extend_way(before, a, link.b, way)?;
-        way.push(number + 1)?;
-        self.extend_way(before, link.a, b, way)?;
-        Ok(())
     }
 
     /// The directed link that leaves a node by a port.
@@ -193,6 +196,14 @@ impl Topology {
             None => None,
         }
     }
+}
+
+/// The same link the other way.
+fn back_of(d: u16) -> u16
+    requires { d < 2 ^ 16 - 1 }
+    ensures { result ≡ back_of d }
+{
+    if d % 2 == 0 { d + 1 } else { d - 1 }
 }
 
 fn first_with(nodes: &[NodePlan], epid: Epid) -> Option<usize>
