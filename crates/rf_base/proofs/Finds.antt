@@ -13,7 +13,7 @@ find-passes {X} p (y ∷ ys) x e = by_test (find-passes p ys x) (p y) refl e
     by_test later true is found = let same : y ≡ x = cc in subst (λ (z : X). p z ≡ true) same is
     by_test later false is found = later found
 
--- where nothing is found, no candidate passes
+-- if nothing is found, no candidate passes
 pub find-misses : {X : Type 0} (p : X → Bool) (f : ℕ → X) (a n : ℕ) → find p (map f (range_with_len a n)) ≡ None →
     (k : ℕ) → a ≤ k → k < a + n → p (f k) ≡ false
 find-misses p f a zero none k low high = absurd (omega arith)
@@ -29,7 +29,7 @@ find-misses {X} p f a (suc n) none k low high =
     by_test later true is found = cc
     by_test later false is found = by_place is (later found) (eq-or-lt_of_le low)
 
--- where no candidate passes, nothing is found
+-- if no candidate passes, nothing is found
 pub find-nowhere : {X : Type 0} (p : X → Bool) (f : ℕ → X) (a n : ℕ) →
     ((k : ℕ) → a ≤ k → k < a + n → p (f k) ≡ false) → find p (map f (range_with_len a n)) ≡ None
 find-nowhere p f a zero misses = refl

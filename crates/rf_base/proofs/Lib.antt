@@ -1,3 +1,2 @@
 pub mod Finds
-pub mod KeptLemmas
 pub mod Places

@@ -15,9 +15,9 @@ one_of wire = record { packets = 1; bytes = wire }
 abbrev pub plus : Count → Count → Count
 plus a b = record { packets = a.packets + b.packets; bytes = a.bytes + b.bytes }
 
--- a less b, where b is part of a
-abbrev pub less : Count → Count → Count
-less a b = record { packets = a.packets - b.packets; bytes = a.bytes - b.bytes }
+-- a minus b, when b is part of a
+abbrev pub minus : Count → Count → Count
+minus a b = record { packets = a.packets - b.packets; bytes = a.bytes - b.bytes }
 
 abbrev pub is_none : Count → Bool
 is_none a = (a.packets == 0) && (a.bytes == 0)
@@ -26,13 +26,13 @@ is_none a = (a.packets == 0) && (a.bytes == 0)
 abbrev pub spelled : Count → Count
 spelled a = record { packets = a.packets % 2 ^ 40; bytes = a.bytes % 2 ^ 64 }
 
--- the remainder of a less b, also where b is greater
-abbrev pub less_modulo : ℕ → ℕ → ℕ → ℕ
-less_modulo m a b = (a + (m - b % m)) % m
+-- the remainder of a minus b, also when b is greater
+abbrev pub minus_modulo : ℕ → ℕ → ℕ → ℕ
+minus_modulo m a b = (a + (m - b % m)) % m
 
--- a less b as far as their spellings tell
-abbrev pub spelled_less : Count → Count → Count
-spelled_less a b = record {
-  packets = less_modulo (2 ^ 40) a.packets b.packets;
-  bytes = less_modulo (2 ^ 64) a.bytes b.bytes;
+-- a minus b as far as their spellings tell
+abbrev pub spelled_minus : Count → Count → Count
+spelled_minus a b = record {
+  packets = minus_modulo (2 ^ 40) a.packets b.packets;
+  bytes = minus_modulo (2 ^ 64) a.bytes b.bytes;
 }

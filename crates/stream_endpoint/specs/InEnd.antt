@@ -12,7 +12,7 @@ use Rattle.stream_endpoint.specs.declared.count.Count.{Count}
 use Rattle.stream_endpoint.specs.declared.flow.Flow.{Flow}
 use Rattle.stream_endpoint.specs.declared.state.Arrived.{Arrived}
 use Rattle.stream_endpoint.specs.declared.state.Gap.{Gap}
-use Rattle.stream_endpoint.specs.Counts.{count, spelled, spelled_less}
+use Rattle.stream_endpoint.specs.Counts.{count, spelled, spelled_minus}
 use Rattle.stream_endpoint.specs.Receiver.{Receiver, listening, expected, arrival, obeys}
 
 pub record Receiving : Type 0 where
@@ -73,7 +73,7 @@ info_by (Some gap) = gap.expected * 65536 + gap.got
 
 -- the status that reports a receiver
 abbrev pub status_of : Receiving → Status
-status_of end = let r = end.receiver in let got = spelled_less r.reached r.buffered in record {
+status_of end = let r = end.receiver in let got = spelled_minus r.reached r.buffered in record {
   code = code_by r.broken;
   src = end.me;
   cap_bytes = end.flow.cap_bytes;

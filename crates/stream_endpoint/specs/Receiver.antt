@@ -10,11 +10,11 @@ use Rattle.stream_endpoint.specs.declared.state.Arrived.TheVariants.{Kept, Disca
 use Rattle.stream_endpoint.specs.declared.state.Gap.{Gap}
 use Rattle.stream_endpoint.specs.declared.state.Notice.{Notice}
 use Rattle.stream_endpoint.specs.declared.state.Notice.TheVariants.{Due, Since}
-use Rattle.stream_endpoint.specs.Counts.{none, one_of, plus, less}
+use Rattle.stream_endpoint.specs.Counts.{none, one_of, plus, minus}
 use Rattle.stream_endpoint.specs.Flow.{HasRoom, frequency}
 
--- The transferred count is reached less buffered.
--- Where no status is due, the last reported count is the transferred one less what `notice` says.
+-- The transferred count is reached minus buffered.
+-- While no status is due, the last reported count is the transferred one minus what `notice` says.
 pub record Receiver : Type 0 where
   -- the gap of a broken receiver, none at a good one
   pub broken : Option Gap
@@ -25,9 +25,9 @@ pub record Receiver : Type 0 where
   pub frequency : Count
   pub notice : Notice
 
--- exact where buffered is part of reached; a spelled reached may be below it
+-- exact when buffered is part of reached; a spelled reached may be below it
 abbrev pub transferred : Receiver → Count
-transferred r = less r.reached r.buffered
+transferred r = minus r.reached r.buffered
 
 -- the number that the next packet should have
 abbrev pub expected : Receiver → ℕ
@@ -74,21 +74,21 @@ arrives number wire r = arrives_at r.broken number wire r
 abbrev pub FindsRoom : Flow → Receiver → ℕ → ℕ → Type 0
 FindsRoom flow r number wire = r.broken ≡ None → number ≡ expected r → HasRoom flow r.buffered wire
 
--- so much taken is worth a status
+-- this much taken makes a status due
 abbrev pub is_much : Count → Count → Bool
 is_much frequency taken =
     nat_le frequency.packets taken.packets || nat_le frequency.bytes taken.bytes
 
--- whether a status is due after so much more was taken
+-- whether a status is due after this much more was taken
 abbrev pub notice_after : Count → Count → Notice → Notice
 notice_after frequency taken Due = Due
 notice_after frequency taken (Since before) =
     cond (is_much frequency (plus before taken)) Due (Since (plus before taken))
 
--- so much of what is buffered is taken
+-- this much of what is buffered is taken
 abbrev pub takes : Count → Receiver → Receiver
 takes taken r = record r {
-  buffered = less r.buffered taken;
+  buffered = minus r.buffered taken;
   notice = notice_after r.frequency taken r.notice;
 }
 

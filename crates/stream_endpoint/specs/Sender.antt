@@ -11,10 +11,10 @@ use Rattle.stream_endpoint.specs.declared.flow.Policy.{Policy}
 use Rattle.stream_endpoint.specs.declared.flow.Policy.TheVariants.{Auto, Off}
 use Rattle.stream_endpoint.specs.declared.state.OutState.{OutState}
 use Rattle.stream_endpoint.specs.declared.state.OutState.TheVariants.{Opening, Running, Halted, Resyncing}
-use Rattle.stream_endpoint.specs.Counts.{none, one_of, plus, less, is_none, spelled_less}
+use Rattle.stream_endpoint.specs.Counts.{none, one_of, plus, minus, is_none, spelled_minus}
 use Rattle.stream_endpoint.specs.Flow.{HasCredit, has_room}
 
--- The known count, of what the receiver said to have transferred, is sent less outstanding.
+-- The known count, of what the receiver said to have transferred, is sent minus outstanding.
 pub record Sender : Type 0 where
   pub state : OutState
   pub sent : Count
@@ -24,9 +24,9 @@ pub record Sender : Type 0 where
   -- the command of this state was sent since the state began
   pub commanded : Bool
 
--- exact where outstanding is part of sent; a spelled sent may be below it
+-- exact when outstanding is part of sent; a spelled sent may be below it
 abbrev pub known : Sender → Count
-known s = less s.sent s.outstanding
+known s = minus s.sent s.outstanding
 
 -- the known counts equal the sent ones
 abbrev pub is_covered : Sender → Bool
@@ -85,7 +85,7 @@ commands (Other code) s = s
 abbrev pub enters : OutState → Sender → Sender
 enters state s = record s { state = state; commanded = false }
 
--- where a sender goes once it hears of a loss
+-- the state that a loss leads to
 abbrev pub fallen : Policy → OutState
 fallen Auto = Resyncing
 fallen Off = Halted
@@ -121,10 +121,10 @@ after_code DataErr policy missed s = s
 after_code RtErr policy missed s = s
 after_code (OtherCode code) policy missed s = s
 
--- a status arrives that leaves so much outstanding
+-- a status arrives that leaves this much outstanding
 abbrev pub hears_left : Policy → StatusCode → Count → Sender → Sender
 hears_left policy code left s = after_code code policy (has_missed left s) (learns left s)
 
 -- a status arrives, with a transferred count that is whole or spelled
 abbrev pub hears : Policy → StatusCode → Count → Sender → Sender
-hears policy code told s = hears_left policy code (spelled_less s.sent told) s
+hears policy code told s = hears_left policy code (spelled_minus s.sent told) s

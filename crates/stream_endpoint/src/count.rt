@@ -1,5 +1,5 @@
 ghost use Rattle.std.specs.Prelude.{◌≡◌};
-ghost use Rattle.stream_endpoint.specs.Counts.{none, one_of, plus, spelled, spelled_less, is_none};
+ghost use Rattle.stream_endpoint.specs.Counts.{none, one_of, plus, spelled, spelled_minus, is_none};
 
 /// A number of packets and the sum of their wire sizes in bytes.
 #[derive(Clone, Copy, Debug, PartialEq, Eq)]
@@ -47,9 +47,9 @@ impl Count {
         }
     }
 
-    /// The count less another, modulo 2^40 packets and 2^64 bytes.
-    pub fn less(self, other: Count) -> Count
-        ensures { result ≡ spelled_less self other }
+    /// The count minus another, modulo 2^40 packets and 2^64 bytes.
+    pub fn minus(self, other: Count) -> Count
+        ensures { result ≡ spelled_minus self other }
     {
         Count {
             packets: (self.packets % PACKETS + (PACKETS - other.packets % PACKETS)) % PACKETS,

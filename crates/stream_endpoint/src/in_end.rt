@@ -70,7 +70,7 @@ impl InEnd {
         }
     }
 
-    /// Whether a packet of this number and wire size may arrive: where it is kept, it finds room.
+    /// Whether a packet of this number and wire size finds room if it is kept.
     ///
     /// Rule: docs/streams.md, "Credit".
     pub fn finds_room(&self, seq: u16, wire: u32) -> bool
@@ -86,7 +86,9 @@ impl InEnd {
     /// Rule: docs/streams.md, "The receiver".
     pub fn arrive(&mut self, seq: u16, wire: u32) -> Arrived
         requires { FindsRoom self.old.flow self.old.receiver seq wire }
+        ensures answer { result ≡ arrival_of seq self.old }
         ensures tells { Tells kept self.old result (arrival_of seq) }
+        ensures kept { self.new ≡ kept (on_receiver (arrives seq wire) self.old) }
         ensures follows { Follows kept self.old self.new (on_receiver (arrives seq wire)) }
     {
         if self.broken.is_some() {
@@ -105,13 +107,14 @@ impl InEnd {
         }
     }
 
-    /// So much of what is buffered has gone to the consumer.
+    /// This much of what is buffered has gone to the consumer.
     ///
     /// Rule: docs/streams.md, "The receiver".
     pub fn taken(&mut self, packets: u32, bytes: u64)
         requires packets_in { packets ≤ self.old.receiver.buffered.packets }
         requires bytes_in { bytes ≤ self.old.receiver.buffered.bytes }
-        ensures { Follows kept self.old self.new (on_receiver (takes (count packets bytes))) }
+        ensures kept { self.new ≡ kept (on_receiver (takes (count packets bytes)) self.old) }
+        ensures follows { Follows kept self.old self.new (on_receiver (takes (count packets bytes))) }
     {
         self.buffered.packets -= packets as u64;
         self.buffered.bytes -= bytes;
@@ -127,7 +130,7 @@ impl InEnd {
     /// The totals of a RESYNC stand for any whole counts that they spell.
     /// Rule: docs/streams.md, "The receiver".
     pub fn command(&mut self, c: &Command)
-        ensures here { self.new ≡ kept (after_command c.now (counts_of c.now) self.old) }
+        ensures kept { self.new ≡ kept (after_command c.now (counts_of c.now) self.old) }
         ensures follows { Obeys c.now self.old self.new }
     {
         let told = Count {
@@ -152,7 +155,7 @@ impl InEnd {
 
     /// Whether a status is to be sent.
     pub fn due(&self) -> bool
-        ensures { Tells kept self.now result (λ end. is_due end.receiver) }
+        ensures { result ≡ is_due self.now.receiver }
     {
         self.notice.is_due()
     }
@@ -163,12 +166,14 @@ impl InEnd {
     /// Rule: docs/streams.md, "The receiver".
     pub fn report(&mut self) -> Status
         requires { IsTrue (is_due self.old.receiver) }
+        ensures answer { result ≡ status_of self.old }
         ensures tells { Tells kept self.old result status_of }
         ensures fits { IsValid self.old.flow → FitsStatus result }
+        ensures kept { self.new ≡ kept (on_receiver reports self.old) }
         ensures follows { Follows kept self.old self.new (on_receiver reports) }
     {
         self.notice = Notice::Since(Count::none());
-        let got = self.reached.less(self.buffered);
+        let got = self.reached.minus(self.buffered);
         let (code, info) = match self.broken {
             None => (StatusCode::Okay, 0),
             Some(gap) => (StatusCode::SeqErr, gap.info()),
@@ -187,14 +192,14 @@ impl InEnd {
 
     /// What was kept and not taken, in packets and in bytes of wire size.
     pub fn buffered(&self) -> Count
-        ensures { Tells kept self.now result (λ end. end.receiver.buffered) }
+        ensures { result ≡ self.now.receiver.buffered }
     {
         self.buffered
     }
 
     /// The gap of a broken end; a good end has none.
     pub fn broken(&self) -> Option<Gap>
-        ensures { Tells kept self.now result (λ end. end.receiver.broken) }
+        ensures { result ≡ self.now.receiver.broken }
     {
         self.broken
     }

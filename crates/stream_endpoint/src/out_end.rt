@@ -3,8 +3,8 @@ ghost use Rattle.rf_base.specs.Kept.{Tells, Follows};
 ghost use Rattle.chdr_words.specs.Command.{FitsCommand};
 ghost use Rattle.stream_endpoint.specs.Counts.{count};
 ghost use Rattle.stream_endpoint.specs.Flow.{IsValid};
-ghost use Rattle.stream_endpoint.specs.Sender.{MaySend, enters, next_number, is_covered, sends, commands, state_of};
-ghost use Rattle.stream_endpoint.specs.OutEnd.{kept, sending, on_sender, on_okay, on_gap, may_send_of, after_status, command_of};
+ghost use Rattle.stream_endpoint.specs.Sender.{MaySend, may_send, enters, next_number, is_covered, sends, commands, state_of};
+ghost use Rattle.stream_endpoint.specs.OutEnd.{kept, sending, on_sender, on_okay, on_gap, after_status, command_of};
 
 use crate::{Count, Flow, OutState, Policy};
 use chdr_words::{CmdOp, Command, Epid, Status, StatusCode};
@@ -82,21 +82,25 @@ impl OutEnd {
 
     /// Whether a packet of `wire` bytes may be sent: the end is Running, and there is credit.
     ///
-    /// `wire` is a wire size in bytes: Length rounded up to a multiple of 8.
+    /// `wire` is a wire size in bytes: Length rounded up to a multiple of 8. A PING doesn't change the
+    /// answer. A packet sent behind a PING is outstanding when the PING is answered, so the OKAY would
+    /// tell of a loss that wasn't: whoever sends a PING sees to it that nothing can be sent.
     /// Rule: docs/streams.md, "Credit".
     pub fn may_send(&self, wire: u32) -> bool
         ensures credit { IsTrue result ↔ MaySend self.now.flow self.now.sender wire }
-        ensures tells { Tells kept self.now result (may_send_of wire) }
+        ensures test { result ≡ may_send self.now.flow self.now.sender wire }
     {
         self.state == OutState::Running && self.flow.has_room(self.outstanding, wire)
     }
 
-    /// Counts a packet of `wire` bytes as sent, and answers its number, modulo 2^16.
+    /// Counts a packet of `wire` bytes as sent, and returns its number, modulo 2^16.
     ///
     /// Rule: docs/streams.md, "Credit".
     pub fn sent(&mut self, wire: u32) -> u16
         requires { MaySend self.old.flow self.old.sender wire }
-        ensures number { Tells kept self.old result (λ end. next_number end.sender) }
+        ensures number { result ≡ next_number self.old.sender }
+        ensures tells { Tells kept self.old result (λ end. next_number end.sender) }
+        ensures kept { self.new ≡ kept (on_sender (sends wire) self.old) }
         ensures follows { Follows kept self.old self.new (on_sender (sends wire)) }
     {
         let number = (self.sent.packets % 65536) as u16;
@@ -111,13 +115,14 @@ impl OutEnd {
     /// A count stands for the last one before what was sent that is spelled so.
     /// Rule: docs/streams.md, "The sender".
     pub fn status(&mut self, s: &Status)
-        ensures { Follows kept self.old self.new (after_status s.now) }
+        ensures kept { self.new ≡ kept (after_status s.now self.old) }
+        ensures follows { Follows kept self.old self.new (after_status s.now) }
     {
         let told = Count {
             packets: s.got_packets,
             bytes: s.got_bytes,
         };
-        self.outstanding = self.sent.less(told);
+        self.outstanding = self.sent.minus(told);
         let missed = self.pinging && !self.outstanding.is_none();
         self.pinging = false;
         match s.code {
@@ -160,6 +165,8 @@ impl OutEnd {
 
     /// Whether a command with this operation may be sent now: each belongs to one state.
     ///
+    /// A PING asks besides that no packet can be sent until it is answered, see `may_send`; the caller
+    /// knows that, and `may_order` of specs/Orders.antt says it.
     /// Rule: docs/streams.md, "The sender".
     pub fn may_command(&self, op: CmdOp) -> bool
         ensures { IsTrue result ↔ (state_of op ≡ Some self.now.sender.state) }
@@ -175,11 +182,15 @@ impl OutEnd {
     /// The command to send, which from then on counts as sent.
     ///
     /// INIT tells the flow's frequency, RESYNC what was sent, modulo 2^40 packets and 2^64 bytes.
+    /// Data that is sent between a RESYNC and its answer would count as arrived in the epoch before:
+    /// in Resyncing `may_send` is false.
     /// Rule: docs/streams.md, "The sender".
     pub fn command(&mut self, op: CmdOp) -> Command
         requires { state_of op ≡ Some self.old.sender.state }
+        ensures answer { result ≡ command_of op self.old }
         ensures tells { Tells kept self.old result (command_of op) }
         ensures fits { FitsCommand result }
+        ensures kept { self.new ≡ kept (on_sender (commands op) self.old) }
         ensures follows { Follows kept self.old self.new (on_sender (commands op)) }
     {
         let counts = match op {
@@ -207,28 +218,36 @@ impl OutEnd {
     }
 
     pub fn state(&self) -> OutState
-        ensures { Tells kept self.now result (λ end. end.sender.state) }
+        ensures { result ≡ self.now.sender.state }
     {
         self.state
     }
 
     /// Whether the known counts equal the sent ones, in packets and in bytes.
     pub fn covered(&self) -> bool
-        ensures { Tells kept self.now result (λ end. is_covered end.sender) }
+        ensures { result ≡ is_covered self.now.sender }
     {
         self.outstanding.is_none()
     }
 
+    /// Whether a PING was sent and no status came since: an OKAY that comes now and leaves something
+    /// outstanding then tells of a loss.
+    pub fn is_pinging(&self) -> bool
+        ensures { result ≡ self.now.sender.pinging }
+    {
+        self.pinging
+    }
+
     /// Whether the command of this state was sent since the state began.
     pub fn commanded(&self) -> bool
-        ensures { Tells kept self.now result (λ end. end.sender.commanded) }
+        ensures { result ≡ self.now.sender.commanded }
     {
         self.commanded
     }
 
     /// Sent less known, in packets and in bytes of wire size.
     pub fn outstanding(&self) -> Count
-        ensures { Tells kept self.now result (λ end. end.sender.outstanding) }
+        ensures { result ≡ self.now.sender.outstanding }
     {
         self.outstanding
     }

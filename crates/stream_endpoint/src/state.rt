@@ -3,16 +3,30 @@ ghost use Rattle.stream_endpoint.specs.Receiver.{is_due_by, notice_after};
 
 use crate::Count;
 
-/// The state of a sending end; docs/streams.md draws its changes.
+/// The state of a sending end.
+///
+/// ```text
+///                  OKAY                  SEQERR, or an OKAY that answers
+///    ┌─────────┐          ┌─────────┐    a PING and leaves something outstanding
+///    │ Opening ├─────────►│ Running ├───────────┬───────────────┐
+///    └─────────┘          └─────────┘           │ auto          │ off
+///     sends INIT           sends data, PING     ▼               ▼
+///                              ▲          ┌────────────┐   ┌────────┐
+///                              └──────────┤ Resyncing  │   │ Halted │
+///                                 OKAY    └────────────┘   └────────┘
+///                                          sends RESYNC     sends nothing
+/// ```
+///
+/// Any other status changes no state. Rule: docs/streams.md, "The sender".
 #[derive(Clone, Copy, Debug, PartialEq, Eq)]
 pub enum OutState {
-    /// The receiver hasn't answered an INIT yet.
+    /// No OKAY has answered an INIT yet.
     Opening,
     /// Data is sent as far as credit goes.
     Running,
     /// A loss ended the stream for good.
     Halted,
-    /// A loss was seen, and the receiver hasn't answered a RESYNC yet.
+    /// A loss was seen, and no OKAY has answered a RESYNC yet.
     Resyncing,
 }
 
@@ -38,7 +52,7 @@ pub enum Arrived {
 #[derive(Clone, Copy, Debug, PartialEq, Eq)]
 pub enum Notice {
     Due,
-    /// None is owed; so much was taken since the last one.
+    /// None is owed; this much was taken since the last one.
     Since(Count),
 }
 
@@ -58,7 +72,7 @@ impl Notice {
         self == Notice::Due
     }
 
-    /// The notice once so much more was taken under this frequency.
+    /// The notice after this much more was taken under this frequency.
     ///
     /// Rule: docs/streams.md, "The receiver".
     pub fn after(self, frequency: Count, more: Count) -> Notice

@@ -212,22 +212,6 @@ fn a_gap_halts_a_sender_that_does_not_resynchronise(rt: HostRuntime) {
 }
 
 #[test]
-fn an_answered_ping_that_covers_less_tells_of_a_loss(rt: HostRuntime) {
-    for (policy, state) in [
-        (Policy::Auto, OutState::Resyncing),
-        (Policy::Off, OutState::Halted),
-    ] {
-        let mut out = sender(0, 0, policy);
-        let mut into = receiver(0, 0);
-        ask(&rt, &mut out, &mut into, CmdOp::Init);
-        send(&rt, &mut out);
-        let status = ask(&rt, &mut out, &mut into, CmdOp::Ping);
-        assert_eq!(rt; status.code, StatusCode::Okay);
-        assert_eq!(rt; out.state(), state);
-    }
-}
-
-#[test]
 fn an_okay_without_a_ping_or_that_covers_all_changes_nothing(rt: HostRuntime) {
     let mut out = sender(0, 0, Policy::Off);
     let mut into = receiver(0, 0);
@@ -302,6 +286,256 @@ fn any_status(x: u64) -> Status {
         info: fourth.field(63, 16),
         buffer: fourth.field(15, 0) as u16,
     }
+}
+
+/// A sender in this state. Opening and Resyncing have sent their command; what is outstanding in the
+/// other states is one packet of 24 bytes, and a PING of it was sent if `pinging`.
+fn sender_in(rt: &impl Abort, state: OutState, pinging: bool, policy: Policy) -> OutEnd {
+    let mut out = sender(0, 0, policy);
+    let mut into = receiver(0, 0);
+    if state == OutState::Opening {
+        command(rt, &mut out, CmdOp::Init);
+        return out;
+    }
+    ask(rt, &mut out, &mut into, CmdOp::Init);
+    send(rt, &mut out);
+    if state != OutState::Running {
+        out.status(&status(StatusCode::SeqErr, 0));
+    }
+    if state == OutState::Resyncing {
+        command(rt, &mut out, CmdOp::Resync);
+    }
+    if pinging {
+        command(rt, &mut out, CmdOp::Ping);
+    }
+    out
+}
+
+/// A status with this code that tells of this many packets of 24 bytes.
+fn status(code: StatusCode, packets: u8) -> Status {
+    Status {
+        code,
+        src: Epid(2),
+        cap_bytes: 96,
+        cap_packets: 4,
+        got_packets: packets as u64,
+        got_bytes: packets as u64 * 24,
+        info: 0,
+        buffer: 0,
+    }
+}
+
+/// The state to which a status leads, row by row: the state before, whether a PING waits for an answer,
+/// the code, whether something stays outstanding, and the state behind it.
+const LEADS: [(OutState, bool, StatusCode, bool, OutState); 14] = [
+    (
+        OutState::Opening,
+        false,
+        StatusCode::Okay,
+        false,
+        OutState::Running,
+    ),
+    (
+        OutState::Opening,
+        false,
+        StatusCode::SeqErr,
+        false,
+        OutState::Opening,
+    ),
+    (
+        OutState::Running,
+        false,
+        StatusCode::Okay,
+        false,
+        OutState::Running,
+    ),
+    (
+        OutState::Running,
+        false,
+        StatusCode::Okay,
+        true,
+        OutState::Running,
+    ),
+    (
+        OutState::Running,
+        true,
+        StatusCode::Okay,
+        false,
+        OutState::Running,
+    ),
+    (
+        OutState::Running,
+        true,
+        StatusCode::Okay,
+        true,
+        OutState::Resyncing,
+    ),
+    (
+        OutState::Running,
+        false,
+        StatusCode::SeqErr,
+        false,
+        OutState::Resyncing,
+    ),
+    (
+        OutState::Running,
+        false,
+        StatusCode::SeqErr,
+        true,
+        OutState::Resyncing,
+    ),
+    (
+        OutState::Running,
+        true,
+        StatusCode::SeqErr,
+        false,
+        OutState::Resyncing,
+    ),
+    (
+        OutState::Running,
+        true,
+        StatusCode::SeqErr,
+        true,
+        OutState::Resyncing,
+    ),
+    (
+        OutState::Resyncing,
+        false,
+        StatusCode::Okay,
+        false,
+        OutState::Running,
+    ),
+    (
+        OutState::Resyncing,
+        false,
+        StatusCode::Okay,
+        true,
+        OutState::Running,
+    ),
+    (
+        OutState::Resyncing,
+        false,
+        StatusCode::SeqErr,
+        false,
+        OutState::Resyncing,
+    ),
+    (
+        OutState::Resyncing,
+        false,
+        StatusCode::SeqErr,
+        true,
+        OutState::Resyncing,
+    ),
+];
+
+#[test]
+fn each_status_leads_where_the_drawing_says(rt: HostRuntime) {
+    for (state, pinging, code, left, leads) in LEADS {
+        for policy in [Policy::Auto, Policy::Off] {
+            if state == OutState::Resyncing && policy == Policy::Off {
+                continue;
+            }
+            let mut out = sender_in(&rt, state, pinging, policy);
+            let commanded = out.commanded();
+            out.status(&status(code, if left { 0 } else { 1 }));
+            let leads = match (leads, policy) {
+                (OutState::Resyncing, Policy::Off) => OutState::Halted,
+                _ => leads,
+            };
+            assert_eq!(rt; out.state(), leads);
+            assert_eq!(rt; out.is_pinging(), false);
+            assert_eq!(rt; out.commanded(), commanded && state == leads);
+        }
+    }
+}
+
+#[test]
+fn other_codes_set_the_counts_and_change_no_state(rt: HostRuntime) {
+    for code in [
+        StatusCode::CmdErr,
+        StatusCode::DataErr,
+        StatusCode::RtErr,
+        StatusCode::Other(9),
+    ] {
+        for (state, policy) in [
+            (OutState::Opening, Policy::Auto),
+            (OutState::Running, Policy::Auto),
+            (OutState::Halted, Policy::Off),
+            (OutState::Resyncing, Policy::Auto),
+        ] {
+            let mut out = sender_in(&rt, state, state == OutState::Running, policy);
+            let sent = if state == OutState::Opening { 0 } else { 1 };
+            let commanded = out.commanded();
+            out.status(&status(code, sent));
+            assert_eq!(rt; (out.state(), out.is_pinging()), (state, false));
+            assert_eq!(rt; (out.commanded(), out.covered()), (commanded, true));
+        }
+    }
+}
+
+#[test]
+fn nothing_leads_out_of_halted(rt: HostRuntime) {
+    for code in [StatusCode::Okay, StatusCode::SeqErr] {
+        for told in [0, 1] {
+            let mut out = sender_in(&rt, OutState::Halted, false, Policy::Off);
+            out.status(&status(code, told));
+            assert_eq!(rt; (out.state(), out.covered()), (OutState::Halted, told == 1));
+            for op in [CmdOp::Init, CmdOp::Ping, CmdOp::Resync] {
+                assert_eq!(rt; out.may_command(op), false);
+            }
+        }
+    }
+}
+
+/// Takes packets of 24 bytes one by one, and returns how many it takes until a status is due.
+fn taken_until_due(rt: &impl Abort, into: &mut InEnd, first: u16) -> u16 {
+    for n in 0..100u16 {
+        if into.due() {
+            return n;
+        }
+        arrive(rt, into, first.wrapping_add(n));
+        take(rt, into, 1);
+    }
+    100
+}
+
+#[test]
+fn an_init_sets_how_much_taken_makes_a_status_due(rt: HostRuntime) {
+    let mut into = receiver(0, 0);
+    for (packets, bytes, first, taken) in [(3, 1000, 0, 3), (1000, 48, 3, 2)] {
+        into.command(&Command {
+            op: CmdOp::Init,
+            op_data: 0,
+            src: Epid(1),
+            packets,
+            bytes,
+        });
+        report(&rt, &mut into);
+        assert_eq!(rt; taken_until_due(&rt, &mut into, first), taken);
+    }
+}
+
+#[test]
+fn a_status_has_each_field(rt: HostRuntime) {
+    let mut into = receiver(7, 1000);
+    for seq in [7, 8, 11] {
+        arrive(&rt, &mut into, seq);
+    }
+    take(&rt, &mut into, 1);
+    let status = report(&rt, &mut into);
+    assert!(rt;
+        status
+            == Status {
+                code: StatusCode::SeqErr,
+                src: Epid(2),
+                cap_bytes: 96,
+                cap_packets: 4,
+                got_packets: 8,
+                got_bytes: 1024,
+                info: 9 * 65536 + 11,
+                buffer: 0,
+            }
+    );
 }
 
 #[test]

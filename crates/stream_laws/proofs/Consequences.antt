@@ -2,7 +2,7 @@
 use Rattle.std.proofs.Common.{◌≡◌, ℕ, zero, suc, ◌+◌, ◌-◌, ◌<◌, ◌≤◌, ◌%◌, ◌^◌, Some, List, [], ◌∷◌, ◌++◌, length, take, drop, slice_get, refl, ap, sym, ◌∙◌, subst, arith, length-drop}
 use Rattle.std.proofs.lemmas.List.{length-take-le, take-append-drop}
 use mathlib.Core.List.{IsPrefix}
-use Rattle.stream_endpoint.specs.Counts.{less_modulo, spelled, spelled_less}
+use Rattle.stream_endpoint.specs.Counts.{minus_modulo, spelled, spelled_minus}
 use Rattle.stream_endpoint.specs.InEnd.{code_by, info_by}
 use Rattle.stream_laws.specs.Machine.{Cut, Load, State, Terms, opens}
 use Rattle.stream_laws.specs.Acts.{Act, IsLegal, after, after_all}
@@ -151,17 +151,17 @@ broken_by_loss {A} terms st run gap broken =
       got = torn.got;
     }
 
-spelled_packets : (a b : ℕ) → less_modulo (2 ^ 40) a (b % 2 ^ 40) ≡ less_modulo (2 ^ 40) a b
+spelled_packets : (a b : ℕ) → minus_modulo (2 ^ 40) a (b % 2 ^ 40) ≡ minus_modulo (2 ^ 40) a b
 spelled_packets a b = let e : b % 2 ^ 40 % 2 ^ 40 ≡ b % 2 ^ 40 = omega arith in ap (λ n. (a + (2 ^ 40 - n)) % 2 ^ 40) e
 
-spelled_bytes : (a b : ℕ) → less_modulo (2 ^ 64) a (b % 2 ^ 64) ≡ less_modulo (2 ^ 64) a b
+spelled_bytes : (a b : ℕ) → minus_modulo (2 ^ 64) a (b % 2 ^ 64) ≡ minus_modulo (2 ^ 64) a b
 spelled_bytes a b = let e : b % 2 ^ 64 % 2 ^ 64 ≡ b % 2 ^ 64 = omega arith in ap (λ n. (a + (2 ^ 64 - n)) % 2 ^ 64) e
 
 pub reads_back : {A : Type 0} (terms : Terms) (st : State A) → IsRun terms st → ReadsBack terms st
 reads_back terms st run status rest e =
     let p = spelled_packets st.sender.sent.packets status.told.packets in
     let b = spelled_bytes st.sender.sent.bytes status.told.bytes in
-    let same : spelled_less st.sender.sent (spelled status.told) ≡ spelled_less st.sender.sent status.told = λ i. record { packets = p i; bytes = b i } in
+    let same : spelled_minus st.sender.sent (spelled status.told) ≡ spelled_minus st.sender.sent status.told = λ i. record { packets = p i; bytes = b i } in
     same ∙ read_back terms st status rest run.valid (holds_run terms st run) e
 
 pub tells_totals : {A : Type 0} (terms : Terms) (st : State A) → IsRun terms st → TellsTotals terms st

@@ -13,7 +13,7 @@ use Rattle.stream_endpoint.specs.declared.state.Arrived.TheVariants.{Kept, Gap a
 use Rattle.stream_endpoint.specs.declared.state.Gap.{Gap}
 use Rattle.stream_endpoint.specs.declared.state.OutState.{OutState}
 use Rattle.stream_endpoint.specs.declared.state.OutState.TheVariants.{Opening, Running, Halted, Resyncing}
-use Rattle.stream_endpoint.specs.Counts.{is_none, less}
+use Rattle.stream_endpoint.specs.Counts.{is_none, minus}
 use Rattle.stream_endpoint.specs.Flow.{HasCredit, IsValid}
 use Rattle.stream_endpoint.specs.InEnd.{code_by}
 use Rattle.stream_endpoint.specs.Receiver.{expected, is_due, transferred}
@@ -139,7 +139,7 @@ drained_hear {A} terms st s rest valid h d e =
     let first = rising.packets.0 in
     let second = rising.bytes.0 in
     let good : badness s.gap ≡ 0 = omega arith in
-    let left : Count = less st.sender.sent s.told in
+    let left : Count = minus st.sender.sent s.told in
     let zero' : is_none left ≡ true = none_left left.packets left.bytes (omega arith) (omega arith) in
     let hearing : Sender → State A = λ later. record st { sender = later; back = rest } in
     let stays : IsDrained (hearing (learns left st.sender)) = record {
@@ -230,7 +230,7 @@ quiet_at_rest {A} terms st run rest = record {
     due (inr no') = no'
 
     taken : (st.taken < length st.given) ⊎ (length st.given ≤ st.taken) → st.taken ≡ length st.given
-    taken (inl less') = absurd (rest (Take 1) tt (omega arith, omega arith))
+    taken (inl minus') = absurd (rest (Take 1) tt (omega arith, omega arith))
     taken (inr all) = let held = (holds_run terms st run).counted.held_packets in omega arith
 
 credit_or : (flow : Flow) (owed : Count) (wire : ℕ) → HasCredit flow owed wire ⊎ (HasCredit flow owed wire → ⊥)
@@ -241,7 +241,7 @@ credit_or flow owed wire = go (cases_lt flow.cap_bytes (owed.bytes + wire)) (cas
         → HasCredit flow owed wire ⊎ (HasCredit flow owed wire → ⊥)
     go (inl many) q = inr (λ c. (let b = c.0 in omega arith))
     go (inr few) (inl many) = inr (λ c. (let p = c.1 in omega arith))
-    go (inr few) (inr less') = inl (few, less')
+    go (inr few) (inr minus') = inl (few, minus')
 
 -- a running stream that is stuck: either it is covered, or a PING is called for
 running_ends : {A : Type 0} (terms : Terms) (st : State A) → IsValid terms.flow → Holds terms st → st.sender.state ≡ Running → IsQuiet st

@@ -8,7 +8,7 @@ use Rattle.stream_endpoint.specs.declared.flow.Policy.TheVariants.{Auto, Off}
 use Rattle.stream_endpoint.specs.declared.state.Gap.{Gap}
 use Rattle.stream_endpoint.specs.declared.state.OutState.{OutState}
 use Rattle.stream_endpoint.specs.declared.state.OutState.TheVariants.{Opening, Running, Halted, Resyncing}
-use Rattle.stream_endpoint.specs.Counts.{is_none, less, none}
+use Rattle.stream_endpoint.specs.Counts.{is_none, minus, none}
 use Rattle.stream_endpoint.specs.Flow.{IsValid, frequency}
 use Rattle.stream_endpoint.specs.InEnd.{code_by}
 use Rattle.stream_endpoint.specs.Receiver.{is_due, transferred}
@@ -53,9 +53,9 @@ fall_calms st left rest Off some =
 
 -- what a PING's answer covers was not lost
 covered_whole : {A : Type 0} (terms : Terms) (st : State A) (s : Told) (rest : List Told) → Holds terms st → st.back ≡ s ∷ rest
-    → is_none (less st.sender.sent s.told) ≡ true → st.missing.packets ≡ 0
+    → is_none (minus st.sender.sent s.told) ≡ true → st.missing.packets ≡ 0
 covered_whole terms st s rest h e covered =
-    let zero' = none_means (less st.sender.sent s.told).packets (less st.sender.sent s.told).bytes covered in
+    let zero' = none_means (minus st.sender.sent s.told).packets (minus st.sender.sent s.told).bytes covered in
     let rising = subst (Rising (known st.sender) (transferred st.receiver)) e h.rising in
     let up = rises_le packets_told _ rest _ rising.packets.1 in
     let balance = h.balanced.packets in
@@ -64,7 +64,7 @@ covered_whole terms st s rest h e covered =
 
 -- what was covered stays so
 covers_on : {A : Type 0} (terms : Terms) (st : State A) (s : Told) (rest : List Told) → Holds terms st → st.back ≡ s ∷ rest
-    → is_none st.sender.outstanding ≡ true → is_none (less st.sender.sent s.told) ≡ true
+    → is_none st.sender.outstanding ≡ true → is_none (minus st.sender.sent s.told) ≡ true
 covers_on terms st s rest h e covered =
     let zero' = none_means st.sender.outstanding.packets st.sender.outstanding.bytes covered in
     let rising = subst (Rising (known st.sender) (transferred st.receiver)) e h.rising in
@@ -72,30 +72,30 @@ covers_on terms st s rest h e covered =
     let second = rising.bytes.0 in
     let p = zero'.0 in
     let b = zero'.1 in
-    none_left (less st.sender.sent s.told).packets (less st.sender.sent s.told).bytes (omega arith) (omega arith)
+    none_left (minus st.sender.sent s.told).packets (minus st.sender.sent s.told).bytes (omega arith) (omega arith)
 
 -- a status by which a sender keeps running
 runs_on : {A : Type 0} (terms : Terms) (st : State A) (s : Told) (rest : List Told) (pinging : Bool) → Holds terms st → st.back ≡ s ∷ rest → st.sender.state ≡ Running
-    → st.sender.pinging ≡ pinging → (pinging && not (is_none (less st.sender.sent s.told))) ≡ false
+    → st.sender.pinging ≡ pinging → (pinging && not (is_none (minus st.sender.sent s.told))) ≡ false
     → (pinging ≡ true → is_none st.sender.outstanding ≡ false)
-    → IsCalm Running st (hearing st rest (learns (less st.sender.sent s.told) st.sender))
+    → IsCalm Running st (hearing st rest (learns (minus st.sender.sent s.told) st.sender))
 runs_on {A} terms st s rest false h e is p m owing =
-    let stay = running_known st.missing.packets (is_covered st.sender) (is_none (less st.sender.sent s.told)) (covers_on terms st s rest h e) in
+    let stay = running_known st.missing.packets (is_covered st.sender) (is_none (minus st.sender.sent s.told)) (covers_on terms st s rest h e) in
     let x = ap unasked (asked_idle st.missing.packets st.sender.pinging (traffic st.forward (is_due st.receiver) st.back) (orders st.forward) (goods st.back + dues (is_due st.receiver)) p) in
-    let calm : IsCalm Running st (record (hearing st rest (learns (less st.sender.sent s.told) st.sender)) { sender = record (learns (less st.sender.sent s.told) st.sender) { state = Running } }) =
+    let calm : IsCalm Running st (record (hearing st rest (learns (minus st.sender.sent s.told) st.sender)) { sender = record (learns (minus st.sender.sent s.told) st.sender) { state = Running } }) =
     record { phase = omega arith; potential = omega arith } in
-    subst (λ q. IsCalm Running st (record (hearing st rest (learns (less st.sender.sent s.told) st.sender)) { sender = record (learns (less st.sender.sent s.told) st.sender) { state = q } })) (sym is) calm
+    subst (λ q. IsCalm Running st (record (hearing st rest (learns (minus st.sender.sent s.told) st.sender)) { sender = record (learns (minus st.sender.sent s.told) st.sender) { state = q } })) (sym is) calm
 runs_on {A} terms st s rest true h e is p m owing =
-    let covered : is_none (less st.sender.sent s.told) ≡ true = (elim (cases_Bool (is_none (less st.sender.sent s.told))) [
+    let covered : is_none (minus st.sender.sent s.told) ≡ true = (elim (cases_Bool (is_none (minus st.sender.sent s.told))) [
       | inl yes' ↦ yes'
-      | inr no' ↦ absurd (let t : not (is_none (less st.sender.sent s.told)) ≡ true = ap not no' in cc (t, m))
+      | inr no' ↦ absurd (let t : not (is_none (minus st.sender.sent s.told)) ≡ true = ap not no' in cc (t, m))
     ]) in
     let whole = covered_whole terms st s rest h e covered in
     let before : phase_by Running st.missing.packets (is_covered st.sender) ≡ 1 = low st.missing.packets (is_covered st.sender) whole (owing refl) in
-    let behind : phase_by Running st.missing.packets (is_none (less st.sender.sent s.told)) ≡ 0 = lowest st.missing.packets (is_none (less st.sender.sent s.told)) whole covered in
-    let calm : IsCalm Running st (record (hearing st rest (learns (less st.sender.sent s.told) st.sender)) { sender = record (learns (less st.sender.sent s.told) st.sender) { state = Running } }) =
+    let behind : phase_by Running st.missing.packets (is_none (minus st.sender.sent s.told)) ≡ 0 = lowest st.missing.packets (is_none (minus st.sender.sent s.told)) whole covered in
+    let calm : IsCalm Running st (record (hearing st rest (learns (minus st.sender.sent s.told) st.sender)) { sender = record (learns (minus st.sender.sent s.told) st.sender) { state = Running } }) =
     record { phase = omega arith; potential = omega arith } in
-    subst (λ q. IsCalm Running st (record (hearing st rest (learns (less st.sender.sent s.told) st.sender)) { sender = record (learns (less st.sender.sent s.told) st.sender) { state = q } })) (sym is) calm
+    subst (λ q. IsCalm Running st (record (hearing st rest (learns (minus st.sender.sent s.told) st.sender)) { sender = record (learns (minus st.sender.sent s.told) st.sender) { state = q } })) (sym is) calm
   where
     low : (n : ℕ) (c : Bool) → n ≡ 0 → c ≡ false → phase_by Running n c ≡ 1
     low zero true z f = absurd (cc f)
@@ -145,12 +145,12 @@ stays_calm {A} st s rest left state e is why =
             record { phase = omega arith; potential = omega arith }
 
 okay_calms : {A : Type 0} (terms : Terms) (st : State A) (s : Told) (rest : List Told) (state : OutState) (missed : Bool) → Holds terms st
-    → st.sender.state ≡ state → st.back ≡ s ∷ rest → s.gap ≡ None → has_missed (less st.sender.sent s.told) st.sender ≡ missed → Talk terms state st
-    → IsCalm state st (hearing st rest (after_okay state terms.policy missed (learns (less st.sender.sent s.told) st.sender)))
+    → st.sender.state ≡ state → st.back ≡ s ∷ rest → s.gap ≡ None → has_missed (minus st.sender.sent s.told) st.sender ≡ missed → Talk terms state st
+    → IsCalm state st (hearing st rest (after_okay state terms.policy missed (learns (minus st.sender.sent s.told) st.sender)))
 okay_calms terms st s rest Opening missed holds is e good m h =
-    let u = running_most st.missing.packets (is_none (less st.sender.sent s.told)) in record { phase = omega arith; potential = omega arith }
+    let u = running_most st.missing.packets (is_none (minus st.sender.sent s.told)) in record { phase = omega arith; potential = omega arith }
 okay_calms terms st s rest Running true holds is e good m h =
-    let both = both_of st.sender.pinging (is_none (less st.sender.sent s.told)) m in
+    let both = both_of st.sender.pinging (is_none (minus st.sender.sent s.told)) m in
     let asked' = subst (λ p. InRunning terms.flow st.sender.outstanding (transferred st.receiver) st.receiver.buffered st.closed st.ready st.forward st.back (is_due st.receiver) st.receiver.broken st.missing.packets p) both.0 h in
     let f = falls_by_ping _ _ _ _ _ _ _ _ _ _ rest s _ _ e holds.balanced (held_even _ _ _ _ _ _ holds.counted) (λ z. not_none _ _ both.1 z.0 z.1) asked' in
     fall_calms st _ rest terms.policy f.some
@@ -158,16 +158,16 @@ okay_calms terms st s rest Running false holds is e good m h =
     runs_on terms st s rest st.sender.pinging holds e is refl m (λ p. (h.asked p).owing)
 okay_calms terms st s rest Halted missed holds is e good m h = stays_calm st s rest _ Halted e is (inl refl)
 okay_calms terms st s rest Resyncing missed holds is e good m h =
-    let none' = (resyncing_hear_good _ _ _ _ _ rest s _ _ _ _ _ terms.flow (less st.sender.sent s.told) (transferred st.receiver) st.closed st.ready e (ap goodness good) h).0 in
+    let none' = (resyncing_hear_good _ _ _ _ _ rest s _ _ _ _ _ terms.flow (minus st.sender.sent s.told) (transferred st.receiver) st.closed st.ready e (ap goodness good) h).0 in
     let a = resyncing_none st.missing.packets (is_covered st.sender) none' in
-    let b = running_low st.missing.packets (is_none (less st.sender.sent s.told)) none' in
+    let b = running_low st.missing.packets (is_none (minus st.sender.sent s.told)) none' in
     record { phase = omega arith; potential = omega arith }
 
 gap_calms : {A : Type 0} (terms : Terms) (st : State A) (s : Told) (rest : List Told) (gap : Gap) (state : OutState)
     → st.sender.state ≡ state → st.back ≡ s ∷ rest → s.gap ≡ Some gap → Talk terms state st
-    → IsCalm state st (hearing st rest (after_gap state terms.policy (learns (less st.sender.sent s.told) st.sender)))
+    → IsCalm state st (hearing st rest (after_gap state terms.policy (learns (minus st.sender.sent s.told) st.sender)))
 gap_calms terms st s rest gap Opening is e bad h =
-    let zero' = (opening_hear _ _ _ _ _ rest s _ _ _ _ (less st.sender.sent s.told) (transferred st.receiver) st.receiver.buffered st.closed st.ready e h).0 in
+    let zero' = (opening_hear _ _ _ _ _ rest s _ _ _ _ (minus st.sender.sent s.told) (transferred st.receiver) st.receiver.buffered st.closed st.ready e h).0 in
     let one = ap badness bad in absurd (omega arith)
 gap_calms terms st s rest gap Running is e bad h =
     fall_calms st _ rest terms.policy (falls_by_gap _ _ _ _ _ _ _ _ rest s _ _ _ _ e (ap badness bad) h).some
@@ -176,9 +176,9 @@ gap_calms terms st s rest gap Resyncing is e bad h =
     let zero' = ap goodness bad in stays_calm st s rest _ Resyncing e is (inr (refl, omega arith))
 
 code_calms : {A : Type 0} (terms : Terms) (st : State A) (s : Told) (rest : List Told) (gap : Option Gap) → s.gap ≡ gap → Holds terms st → st.back ≡ s ∷ rest
-    → IsCalm st.sender.state st (hearing st rest (hears_left terms.policy (code_by gap) (less st.sender.sent s.told) st.sender))
+    → IsCalm st.sender.state st (hearing st rest (hears_left terms.policy (code_by gap) (minus st.sender.sent s.told) st.sender))
 code_calms terms st s rest None is h e =
-    okay_calms terms st s rest st.sender.state (has_missed (less st.sender.sent s.told) st.sender) h refl e is refl h.talk
+    okay_calms terms st s rest st.sender.state (has_missed (minus st.sender.sent s.told) st.sender) h refl e is refl h.talk
 code_calms terms st s rest (Some gap) is h e = gap_calms terms st s rest gap st.sender.state refl e is h.talk
 
 calm_hear : {A : Type 0} (terms : Terms) (st : State A) (s : Told) (rest : List Told) → IsValid terms.flow → Holds terms st → Allowed terms st (Hear s rest)

@@ -4,7 +4,7 @@ use Rattle.std.proofs.lemmas.List.Sums.{sum_by-append, sum_by-take-drop}
 use Rattle.std.proofs.lemmas.List.{length-take-le}
 use Rattle.stream_endpoint.specs.declared.count.Count.{Count}
 use Rattle.stream_endpoint.specs.declared.flow.Flow.{Flow}
-use Rattle.stream_endpoint.specs.Counts.{less, less_modulo, none, one_of, plus}
+use Rattle.stream_endpoint.specs.Counts.{minus, minus_modulo, none, one_of, plus}
 use Rattle.stream_endpoint.specs.Flow.{HasCredit}
 use Rattle.chdr_words.specs.declared.command.CmdOp.{CmdOp}
 use Rattle.stream_laws.specs.Machine.{Entry, Data, Command, Load, Told, count_of}
@@ -51,7 +51,7 @@ counted_keep start sent given taken total buffered load h =
 
 pub counted_take : {A : Type 0} (start : Count) (sent given : List (Load A)) (taken : ℕ) (total buffered : Count) (n : ℕ)
     → Counted start sent given taken total buffered → taken + n ≤ length given
-    → Counted start sent given (taken + n) total (less buffered (count_of (take n (drop taken given))))
+    → Counted start sent given (taken + n) total (minus buffered (count_of (take n (drop taken given))))
 counted_take start sent given taken total buffered n h le =
     let p = length-drop taken given in
     let q = length-take-le n (drop taken given) (omega arith) in
@@ -100,7 +100,7 @@ balanced_renew total reached buffered missing es rest e h =
     let p = ap (λ fs. (flying fs).packets) e in let b = ap (λ fs. (flying fs).bytes) e in omega arith
 
 pub balanced_take : (total reached buffered flight missing taken : Count)
-    → Balanced total reached buffered flight missing → Balanced total reached (less buffered taken) flight missing
+    → Balanced total reached buffered flight missing → Balanced total reached (minus buffered taken) flight missing
 balanced_take total reached buffered flight missing taken h = omega arith
 
 pub balanced_lose : {A : Type 0} (total reached buffered missing : Count) (es before : List (Entry A)) (place : ℕ) (load : Load A) (behind : List (Entry A))
@@ -129,12 +129,12 @@ credited_enter flow total outstanding wire credit h = omega arith
 
 -- a status brings the known counts forward
 pub credited_hear : (flow : Flow) (total outstanding moved : Count) (s : Told) (rest : List Told)
-    → Rising (less total outstanding) moved (s ∷ rest) → Credited flow total outstanding → Credited flow total (less total s.told)
+    → Rising (minus total outstanding) moved (s ∷ rest) → Credited flow total outstanding → Credited flow total (minus total s.told)
 credited_hear flow total outstanding moved s rest rising h =
     let p = rising.packets.0 in let b = rising.bytes.0 in omega arith
 
 pub rising_enter : (flow : Flow) (total outstanding moved : Count) (back : List Told) (wire : ℕ) → Credited flow total outstanding
-    → Rising (less total outstanding) moved back → Rising (less (plus total (one_of wire)) (plus outstanding (one_of wire))) moved back
+    → Rising (minus total outstanding) moved back → Rising (minus (plus total (one_of wire)) (plus outstanding (one_of wire))) moved back
 rising_enter flow total outstanding moved back wire credit h = record {
   packets = rises_from packets_told _ _ back _ h.packets (omega arith);
   bytes = rises_from bytes_told _ _ back _ h.bytes (omega arith);
@@ -155,7 +155,7 @@ rising_report known back s h = record {
 }
 
 pub rising_hear : (total outstanding moved : Count) (s : Told) (rest : List Told) → moved.packets ≤ total.packets → moved.bytes ≤ total.bytes
-    → Rising (less total outstanding) moved (s ∷ rest) → Rising (less total (less total s.told)) moved rest
+    → Rising (minus total outstanding) moved (s ∷ rest) → Rising (minus total (minus total s.told)) moved rest
 rising_hear total outstanding moved s rest p b h =
     let q = rises_le packets_told _ rest _ h.packets.1 in
     let c = rises_le bytes_told _ rest _ h.bytes.1 in
@@ -172,8 +172,8 @@ rising_lose known moved before s behind h = record {
 }
 
 -- a count in flight is read back from its spelling
-pub packets_back : (a b : ℕ) → b ≤ a → a - b < 2 ^ 40 → less_modulo (2 ^ 40) a b ≡ a - b
+pub packets_back : (a b : ℕ) → b ≤ a → a - b < 2 ^ 40 → minus_modulo (2 ^ 40) a b ≡ a - b
 packets_back a b le few = omega arith
 
-pub bytes_back : (a b : ℕ) → b ≤ a → a - b < 2 ^ 64 → less_modulo (2 ^ 64) a b ≡ a - b
+pub bytes_back : (a b : ℕ) → b ≤ a → a - b < 2 ^ 64 → minus_modulo (2 ^ 64) a b ≡ a - b
 bytes_back a b le few = omega arith

@@ -3,7 +3,7 @@ use Rattle.std.proofs.Common.{◌≡◌, ℕ, ◌+◌, ◌≤◌, ◌⊎◌, tru
 use Rattle.stream_endpoint.specs.declared.count.Count.{Count}
 use Rattle.stream_endpoint.specs.declared.state.OutState.{OutState}
 use Rattle.stream_endpoint.specs.declared.state.OutState.TheVariants.{Opening, Running, Halted, Resyncing}
-use Rattle.stream_endpoint.specs.Counts.{less, spelled_less}
+use Rattle.stream_endpoint.specs.Counts.{minus, spelled_minus}
 use Rattle.stream_endpoint.specs.Flow.{IsValid}
 use Rattle.stream_endpoint.specs.Receiver.{is_due, reports, takes, transferred}
 use Rattle.stream_endpoint.specs.Sender.{Sender, known}
@@ -102,7 +102,7 @@ holds_lose_status terms st before s behind h e = record {
 
 -- what a status leaves outstanding is what was sent past it
 pub read_back : {A : Type 0} (terms : Terms) (st : State A) (s : Told) (rest : List Told) → IsValid terms.flow → Holds terms st → st.back ≡ s ∷ rest
-    → spelled_less st.sender.sent s.told ≡ less st.sender.sent s.told
+    → spelled_minus st.sender.sent s.told ≡ minus st.sender.sent s.told
 read_back terms st s rest valid h e =
     let rising = subst (Rising (known st.sender) (transferred st.receiver)) e h.rising in
     let p = rises_le packets_told _ rest _ rising.packets.1 in

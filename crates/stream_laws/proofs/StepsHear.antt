@@ -6,7 +6,7 @@ use Rattle.stream_endpoint.specs.declared.flow.Policy.TheVariants.{Auto, Off}
 use Rattle.stream_endpoint.specs.declared.state.Gap.{Gap}
 use Rattle.stream_endpoint.specs.declared.state.OutState.{OutState}
 use Rattle.stream_endpoint.specs.declared.state.OutState.TheVariants.{Opening, Running, Halted, Resyncing}
-use Rattle.stream_endpoint.specs.Counts.{is_none, less}
+use Rattle.stream_endpoint.specs.Counts.{is_none, minus}
 use Rattle.stream_endpoint.specs.Flow.{IsValid}
 use Rattle.stream_endpoint.specs.InEnd.{code_by}
 use Rattle.stream_endpoint.specs.Receiver.{is_due, transferred}
@@ -76,29 +76,29 @@ run terms st state left s rest talk = record {
 }
 
 okay_heard : {A : Type 0} (terms : Terms) (st : State A) (s : Told) (rest : List Told) (state : OutState) (missed : Bool)
-    → st.sender.state ≡ state → st.back ≡ s ∷ rest → s.gap ≡ None → has_missed (less st.sender.sent s.told) st.sender ≡ missed
+    → st.sender.state ≡ state → st.back ≡ s ∷ rest → s.gap ≡ None → has_missed (minus st.sender.sent s.told) st.sender ≡ missed
     → Balanced st.sender.sent st.receiver.reached st.receiver.buffered (flying st.forward) st.missing
     → (st.receiver.buffered.packets ≡ 0 → st.receiver.buffered.bytes ≡ 0)
     → Talk terms state st
-    → IsHeard terms st state (less st.sender.sent s.told) s rest (after_okay state terms.policy missed (learns (less st.sender.sent s.told) st.sender))
+    → IsHeard terms st state (minus st.sender.sent s.told) s rest (after_okay state terms.policy missed (learns (minus st.sender.sent s.told) st.sender))
 okay_heard terms st s rest Opening missed is e good m balanced even h =
-    run terms st Opening _ s rest (opening_hear _ _ _ _ _ rest s _ _ _ _ (less st.sender.sent s.told) (transferred st.receiver) st.receiver.buffered st.closed st.ready e h).1
+    run terms st Opening _ s rest (opening_hear _ _ _ _ _ rest s _ _ _ _ (minus st.sender.sent s.told) (transferred st.receiver) st.receiver.buffered st.closed st.ready e h).1
 okay_heard terms st s rest Running true is e good m balanced even h =
-    let both = both_of st.sender.pinging (is_none (less st.sender.sent s.told)) m in
+    let both = both_of st.sender.pinging (is_none (minus st.sender.sent s.told)) m in
     let asked = subst (λ p. InRunning terms.flow st.sender.outstanding (transferred st.receiver) st.receiver.buffered st.closed st.ready st.forward st.back (is_due st.receiver) st.receiver.broken st.missing.packets p) both.0 h in
     fall terms st _ s rest terms.policy refl
     (falls_by_ping _ _ _ _ _ _ _ _ _ _ rest s _ _ e balanced even (λ z. not_none _ _ both.1 z.0 z.1) asked)
 okay_heard terms st s rest Running false is e good m balanced even h =
-    stay terms st Running _ s rest is (λ r. absurd (cc r)) (running_hear _ _ (less st.sender.sent s.told) _ _ _ _ _ _ rest s _ _ _ _ e h)
+    stay terms st Running _ s rest is (λ r. absurd (cc r)) (running_hear _ _ (minus st.sender.sent s.told) _ _ _ _ _ _ rest s _ _ _ _ e h)
 okay_heard terms st s rest Halted missed is e good m balanced even h = stay terms st Halted _ s rest is (λ r. absurd (cc r)) h
 okay_heard terms st s rest Resyncing missed is e good m balanced even h =
-    run terms st Resyncing _ s rest (resyncing_hear_good _ _ _ _ _ rest s _ _ _ _ _ terms.flow (less st.sender.sent s.told) (transferred st.receiver) st.closed st.ready e (ap goodness good) h).1
+    run terms st Resyncing _ s rest (resyncing_hear_good _ _ _ _ _ rest s _ _ _ _ _ terms.flow (minus st.sender.sent s.told) (transferred st.receiver) st.closed st.ready e (ap goodness good) h).1
 
 gap_heard : {A : Type 0} (terms : Terms) (st : State A) (s : Told) (rest : List Told) (gap : Gap) (state : OutState)
     → st.sender.state ≡ state → st.back ≡ s ∷ rest → s.gap ≡ Some gap → Talk terms state st
-    → IsHeard terms st state (less st.sender.sent s.told) s rest (after_gap state terms.policy (learns (less st.sender.sent s.told) st.sender))
+    → IsHeard terms st state (minus st.sender.sent s.told) s rest (after_gap state terms.policy (learns (minus st.sender.sent s.told) st.sender))
 gap_heard terms st s rest gap Opening is e bad h =
-    let zero' = (opening_hear _ _ _ _ _ rest s _ _ _ _ (less st.sender.sent s.told) (transferred st.receiver) st.receiver.buffered st.closed st.ready e h).0 in
+    let zero' = (opening_hear _ _ _ _ _ rest s _ _ _ _ (minus st.sender.sent s.told) (transferred st.receiver) st.receiver.buffered st.closed st.ready e h).0 in
     let one = ap badness bad in absurd (omega arith)
 gap_heard terms st s rest gap Running is e bad h =
     fall terms st _ s rest terms.policy refl (falls_by_gap _ _ _ _ _ _ _ _ rest s _ _ _ _ e (ap badness bad) h)
@@ -108,16 +108,16 @@ gap_heard terms st s rest gap Resyncing is e bad h =
     stay terms st Resyncing _ s rest is (λ r. omega arith) (resyncing_hear_bad _ _ _ _ _ rest s _ _ _ _ _ e h)
 
 code_heard : {A : Type 0} (terms : Terms) (st : State A) (s : Told) (rest : List Told) (gap : Option Gap) → s.gap ≡ gap → Holds terms st → st.back ≡ s ∷ rest
-    → IsHeard terms st st.sender.state (less st.sender.sent s.told) s rest (hears_left terms.policy (code_by gap) (less st.sender.sent s.told) st.sender)
+    → IsHeard terms st st.sender.state (minus st.sender.sent s.told) s rest (hears_left terms.policy (code_by gap) (minus st.sender.sent s.told) st.sender)
 code_heard terms st s rest None is h e =
-    okay_heard terms st s rest st.sender.state (has_missed (less st.sender.sent s.told) st.sender) refl e is refl h.balanced
+    okay_heard terms st s rest st.sender.state (has_missed (minus st.sender.sent s.told) st.sender) refl e is refl h.balanced
     (held_even _ _ _ _ _ _ h.counted) h.talk
 code_heard terms st s rest (Some gap) is h e = gap_heard terms st s rest gap st.sender.state refl e is h.talk
 
 pub holds_hear : {A : Type 0} (terms : Terms) (st : State A) (s : Told) (rest : List Told)
     → IsValid terms.flow → Holds terms st → Allowed terms st (Hear s rest) → Holds terms (after terms st (Hear s rest))
 holds_hear {A} terms st s rest valid h e =
-    let left : Count = less st.sender.sent s.told in
+    let left : Count = minus st.sender.sent s.told in
     let heard = code_heard terms st s rest s.gap refl h e in
     let later : Sender = hears_left terms.policy (code_by s.gap) left st.sender in
     let rising = subst (Rising (known st.sender) (transferred st.receiver)) e h.rising in

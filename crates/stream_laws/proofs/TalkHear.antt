@@ -7,7 +7,7 @@ use Rattle.stream_endpoint.specs.declared.flow.Flow.{Flow}
 use Rattle.stream_endpoint.specs.declared.flow.Policy.{Policy}
 use Rattle.stream_endpoint.specs.declared.flow.Policy.TheVariants.{Auto, Off}
 use Rattle.stream_endpoint.specs.declared.state.Gap.{Gap}
-use Rattle.stream_endpoint.specs.Counts.{less, none}
+use Rattle.stream_endpoint.specs.Counts.{minus, none}
 use Rattle.stream_laws.specs.Machine.{Entry, Load, Told}
 use Rattle.stream_laws.specs.Chains.{Rises, badness, bad_told, bytes_told, flying, good_told, goodness, orders, packets_told}
 use Rattle.stream_laws.specs.Invariant.{Balanced, dues}
@@ -89,16 +89,16 @@ falls_by_gap flow outstanding moved held closed ready es back rest s due broken 
 pub falls_by_ping : {A : Type 0} (flow : Flow) (outstanding total reached held missing : Count) (closed : Bool) (ready : List (Load A))
     (es : List (Entry A)) (back rest : List Told) (s : Told) (due : Bool) (broken : Option Gap)
     → back ≡ s ∷ rest → Balanced total reached held (flying es) missing → (held.packets ≡ 0 → held.bytes ≡ 0)
-    → (((less total s.told).packets ≡ 0) × ((less total s.told).bytes ≡ 0) → ⊥)
-    → InRunning flow outstanding (less reached held) held closed ready es back due broken missing.packets true
+    → (((minus total s.told).packets ≡ 0) × ((minus total s.told).bytes ≡ 0) → ⊥)
+    → InRunning flow outstanding (minus reached held) held closed ready es back due broken missing.packets true
     → Falls es rest due held.packets broken missing.packets
 falls_by_ping flow outstanding total reached held missing closed ready es back rest s due broken e balanced even not_covered h =
     let a = h.asked refl in
     let l = ap length e in
     let m = a.one in
     let none' : rest ≡ [] = nothing rest (omega arith) in
-    let xp = subst (λ ss. Rises packets_told (less reached held).packets ss (less reached held).packets) e a.exact_packets in
-    let xb = subst (λ ss. Rises bytes_told (less reached held).bytes ss (less reached held).bytes) e a.exact_bytes in
+    let xp = subst (λ ss. Rises packets_told (minus reached held).packets ss (minus reached held).packets) e a.exact_packets in
+    let xb = subst (λ ss. Rises bytes_told (minus reached held).bytes ss (minus reached held).bytes) e a.exact_bytes in
     let lp = rises_le packets_told _ rest _ xp.1 in
     let lb = rises_le bytes_told _ rest _ xb.1 in
     let held_packets = a.all_taken in

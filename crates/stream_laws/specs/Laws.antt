@@ -5,7 +5,7 @@ use Rattle.chdr_words.specs.declared.command.CmdOp.TheVariants.{Resync}
 use Rattle.chdr_words.specs.declared.status.StatusCode.TheVariants.{SeqErr}
 use Rattle.stream_endpoint.specs.declared.count.Count.{Count}
 use Rattle.stream_endpoint.specs.declared.state.Gap.{Gap}
-use Rattle.stream_endpoint.specs.Counts.{less, spelled, spelled_less}
+use Rattle.stream_endpoint.specs.Counts.{minus, spelled, spelled_minus}
 use Rattle.stream_endpoint.specs.Flow.{IsValid}
 use Rattle.stream_endpoint.specs.InEnd.{code_by, info_by}
 use Rattle.stream_endpoint.specs.Receiver.{FindsRoom, expected}
@@ -106,7 +106,7 @@ HasFewEpochs terms st = epochs st ≤ 1 + st.losses
 -- A count that is read back from its spelling is the count that was told.
 abbrev pub ReadsBack : {A : Type 0} → Terms → State A → Type 0
 ReadsBack terms st = (status : Told) (rest : List Told) → st.back ≡ status ∷ rest
-    → spelled_less st.sender.sent (spelled status.told) ≡ less st.sender.sent status.told
+    → spelled_minus st.sender.sent (spelled status.told) ≡ minus st.sender.sent status.told
 
 -- A RESYNC that arrives tells all that was sent.
 abbrev pub TellsTotals : {A : Type 0} → Terms → State A → Type 0

@@ -1,0 +1,5 @@
+mod KeptEnds
+mod CallLemmas
+mod Spellings
+mod Conditions
+pub mod Laws
