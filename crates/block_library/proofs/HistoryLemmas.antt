@@ -7,7 +7,7 @@ use Rattle.chdr_packets.specs.declared.packet.Packet.{Packet}
 use Rattle.block_library.specs.declared.kind.BlockKind.{BlockKind}
 use Rattle.block_library.specs.declared.kind.BlockKind.TheVariants.{Tx, Rx, Fifo, Split, Keep, Repeat, Replay, Switch, Sink}
 use Rattle.block_library.specs.Blocks.{Lists, Extends, FitsKind, inputs, samples_in, payload_in, kept_samples, kept_packets, resampled, repeated_packet, closes, groups, open_group, replayed_group, block_of, joined, alone}
-use Rattle.block_library.specs.Memory.{Kept, kept_of, gives, after_feed, total, counted, phase_of, group_of, next_phase, next_group, lists, kept, StandsFor, GoesOn}
+use Rattle.block_library.specs.Memory.{Kept, kept_of, gives, after_feed, total, counted, phase_of, group_of, next_phase, next_group, lists, kept, StandsFor, GoesOn, HistoryGoesOn}
 use Rattle.block_library.proofs.BlockLemmas.{mod_first, kept_packets-append, kept_samples-mod, groups-append, open_group-append}
 
 pub same_lists : (a b c d : List Packet) → a ≡ c → b ≡ d → lists a b ≡ lists c d
@@ -149,6 +149,9 @@ goes_on old new fed port p given f h n g stands =
           ap (λ k. joined (block_of old.kind old.item fed) (gives k port p)) stands
           ∙ sym (block_of-more old.kind old.item fed port p f h);
     }
+
+pub history_goes_on : HistoryGoesOn
+history_goes_on kind item fed port p f h = (kept_of-more kind item fed port p f h, block_of-more kind item fed port p f h)
 
 pub block_of-prefix : (kind : BlockKind) (item : ℕ) (fed more : Lists) →
     Extends (block_of kind item fed) (block_of kind item (joined fed more))

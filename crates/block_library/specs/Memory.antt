@@ -4,7 +4,7 @@ use Rattle.std.specs.List.{sum_by}
 use Rattle.chdr_packets.specs.declared.packet.Packet.{Packet}
 use Rattle.block_library.specs.declared.kind.BlockKind.{BlockKind}
 use Rattle.block_library.specs.declared.kind.BlockKind.TheVariants.{Tx, Rx, Fifo, Split, Keep, Repeat, Replay, Switch, Sink}
-use Rattle.block_library.specs.Blocks.{FitsKind, Lists, samples_in, payload_in, kept_samples, resampled, repeated_packet, closes, open_group, replayed_group, block_of, joined, alone}
+use Rattle.block_library.specs.Blocks.{FitsKind, Lists, inputs, samples_in, payload_in, kept_samples, resampled, repeated_packet, closes, open_group, replayed_group, block_of, joined, alone}
 
 -- the count of packets stands still at the end of its type
 abbrev pub counted : ℕ → ℕ
@@ -148,6 +148,12 @@ StandsFor kept fed = kept ≡ kept_of kept.kind kept.item fed
 pub record GoesOn (old new : Kept) (fed : Lists) (port : ℕ) (p : Packet) (given : Lists) : Type 0 where
   pub stands : StandsFor new (joined fed (alone port p))
   pub gives_all : joined (block_of old.kind old.item fed) given ≡ block_of old.kind old.item (joined fed (alone port p))
+
+-- what a whole history with one packet more leaves, and what it gives
+abbrev pub HistoryGoesOn : Type 0
+HistoryGoesOn = (kind : BlockKind) (item : ℕ) (fed : Lists) (port : ℕ) (p : Packet) → FitsKind kind → port < inputs kind →
+    (kept_of kind item (joined fed (alone port p)) ≡ after_feed (kept_of kind item fed) port p)
+    × (block_of kind item (joined fed (alone port p)) ≡ joined (block_of kind item fed) (gives (kept_of kind item fed) port p))
 
 -- the registers of a block
 abbrev pub kind_code : BlockKind → ℕ

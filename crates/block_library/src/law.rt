@@ -1,7 +1,7 @@
 ghost use Rattle.std.specs.Prelude.{ℕ};
 ghost use Rattle.block_library.specs.declared.kind.BlockKind.{BlockKind};
 ghost use Rattle.block_library.specs.Blocks.{Lists, Extends, block_of, joined};
-ghost use Rattle.block_library.specs.Memory.{KeptStaysFit};
+ghost use Rattle.block_library.specs.Memory.{HistoryGoesOn, KeptStaysFit};
 ghost use Rattle.block_library.specs.Producer.{ProducedIsByPlace};
 ghost use Rattle.block_library.specs.Lines.{LinesGrow};
 ghost use Rattle.block_library.specs.Within.{FedBoundsGiven, AllFedBoundGiven, FewAreGiven, FewAreGivenInAll, WithinIsSmall, WithinIsOfAll, PlansAreWithin};
@@ -10,6 +10,11 @@ ghost use Rattle.block_library.specs.Within.{FedBoundsGiven, AllFedBoundGiven, F
 pub fn blocks_grow_by_prefixes()
     ensures { (kind : BlockKind) (item : ℕ) (fed more : Lists) → Extends (block_of kind item fed)
         (block_of kind item (joined fed more)) }
+{}
+
+/// What a block keeps of a history, and gives for it, follows packet by packet.
+pub fn a_history_grows_by_packets()
+    ensures { HistoryGoesOn }
 {}
 
 /// A line counts a list of packets packet by packet, from nothing on.
