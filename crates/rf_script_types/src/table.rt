@@ -13,6 +13,16 @@ pub struct Number {
     pub default: Option<u64>,
 }
 
+// the script itself
+
+pub const RFNOC: Number = Number {
+    key: Field::Rfnoc,
+    told: Field::Rfnoc,
+    low: 1,
+    high: 2,
+    default: None,
+};
+
 // net
 
 pub const ROOM: Number = Number {
