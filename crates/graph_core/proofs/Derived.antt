@@ -2,7 +2,7 @@
 use Rattle.std.proofs.Common.{◌≡◌, ◌∙◌, ℕ, ◌⊎◌, inl, inr, ⊎_elim, sym, ap, subst, List, [], ◌∷◌, ◌++◌, Contains, arith}
 use Rattle.std.proofs.lemmas.List.Elements.{Contains-push_cases}
 use Rattle.graph_core.specs.declared.place.PropAt.{PropAt}
-use Rattle.graph_core.specs.Derivation.{Diagram, IsDerivation, IsClosed}
+use Rattle.graph_core.specs.Derivation.{Diagram, IsDerivation, IsClosed, ClosedIsUnique}
 use Rattle.graph_core.specs.Derivation.IsDerivation.{none, set, given}
 use Rattle.graph_core.specs.Pairs.{Pair, Lacks}
 
@@ -44,3 +44,6 @@ module _ (diagram : Diagram) where
   one_value pairs none q u w a b = absurd (none_in (q, u) a)
   one_value pairs (set earlier at value sub user lacks e) q u w a b = one_more pairs earlier at value lacks e (one_value earlier sub) q u w a b
   one_value pairs (given earlier at value by from number sub there gives lacks e) q u w a b = one_more pairs earlier at value lacks e (one_value earlier sub) q u w a b
+
+pub closed_is_unique : ClosedIsUnique
+closed_is_unique diagram one other a b at value has = included diagram one other a.derivation b at value has

@@ -1,6 +1,9 @@
-pub mod Derived
-pub mod Graphs
+mod Derived
+mod Graphs
 mod Keys
-pub mod Places
+pub mod Laws
+mod Places
+mod Ranks
 mod Reached
+mod Settled
 mod Tables

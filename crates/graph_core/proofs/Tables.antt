@@ -1,12 +1,13 @@
 -- What a map from properties to numbers has, as the list of its pairs.
-use Rattle.std.proofs.Common.{◌≡◌, ◌≢◌, ℕ, Bool, true, false, List, Contains, Option, Some, None, IfSome, IfNone, refl, sym, ap, ◌∙◌, inl, inr, ◌⊎◌, true≢false, unwrap_or}
+use Rattle.std.proofs.Common.{[], ◌∷◌, cond, ◌≡◌, ◌≢◌, ℕ, Bool, true, false, List, Contains, Option, Some, None, IfSome, IfNone, refl, sym, ap, ◌∙◌, inl, inr, ◌⊎◌, true≢false, unwrap_or}
 use Rattle.std.specs.Map.{lookup, keys_of}
 use Rattle.std.specs.List.{IsDistinct}
+use Rattle.indexmap.specs.IndexMap.{insert_entry}
 use Rattle.std.specs.HashMap.{HashMap, IsUnique, Updates}
 use Rattle.std.proofs.lemmas.Map.Views.{Contains-from_lookup, lookup-from_Contains}
 use Rattle.graph_core.specs.declared.place.PropAt.{PropAt}
 use Rattle.graph_core.specs.contracts.place.PropAtPartialEq.TheImpl.{eq-value}
-use Rattle.graph_core.specs.Pairs.{Pair, Lacks, IsPut}
+use Rattle.graph_core.specs.Pairs.{Pair, Lacks, IsPut, with_value}
 use Rattle.graph_core.proofs.Keys.{same_key, key_laws, same_itself}
 
 module _ (es : List Pair) (at : PropAt) where
@@ -48,3 +49,10 @@ module _ {S : Type 0} (m n : HashMap PropAt ℕ S) (at : PropAt) (value : ℕ) w
           let same : q ≡ at = sym (same_key at q e) in
           inl (same, same_some (sym look ∙ ap (λ p. lookup (eq-value.it p) n.entries) same ∙ up.1))
       by q u false e look = inr (λ same. true≢false (sym (same_itself at) ∙ ap (eq-value.it at) (sym same) ∙ e), Contains-from_lookup same_key q u m.entries (sym (up.2 q e) ∙ look))
+
+-- the map's own insertion is the definition
+pub inserted : (es : List Pair) (at : PropAt) (value : ℕ) → insert_entry eq-value.it es at value ≡ with_value es at value
+unfolding with_value
+inserted [] at value = refl
+inserted (e ∷ es) at value =
+    ap (λ rest. cond (eq-value.it at e.0) ((e.0, value) ∷ es) (e ∷ rest)) (inserted es at value)

@@ -4,4 +4,5 @@ pub mod Pairs
 pub mod Ports
 pub mod Reach
 pub mod Refusals
+pub mod Settled
 pub mod State

@@ -9,7 +9,7 @@ use Rattle.graph_core.specs.Derivation.{Diagram, Settles}
 use Rattle.graph_core.specs.Edges.{IsAcyclic, IsBadPort, IsJoined, port_number}
 use Rattle.graph_core.specs.Refusals.{IsRefusedTaken, IsRefusedCycle}
 use Rattle.graph_core.specs.declared.place.PortAt.{PortAt}
-use Rattle.graph_core.specs.Pairs.{Pair, IsPut}
+use Rattle.graph_core.specs.Pairs.{Pair, with_value}
 use Rattle.graph_core.specs.Ports.{IsProperty, ports_at}
 
 -- a graph: what its rules speak of, the values of the last commit, and whether it is committed
@@ -79,10 +79,14 @@ with_edge state edge = record {
 abbrev pub with_values : State → List Pair → State
 with_values state values = record { diagram = state.diagram; committed = values; is_committed = true }
 
--- the user's value of the property is set, and nothing else of the graph changed but its mark
-pub record IsSet (old new : State) (at : PropAt) (value : ℕ) : Type 0 where
-  pub users : IsPut old.diagram.users new.diagram.users at value
-  pub kinds : new.diagram.kinds ≡ old.diagram.kinds
-  pub edges : new.diagram.edges ≡ old.diagram.edges
-  pub committed : new.committed ≡ old.committed
-  pub mark : new.is_committed ≡ false
+-- the graph with that value of the user's, in place of an earlier one of the property or last
+abbrev pub with_user : State → PropAt → ℕ → State
+with_user state at value = record {
+  diagram = record {
+    kinds = state.diagram.kinds;
+    edges = state.diagram.edges;
+    users = with_value state.diagram.users at value;
+  };
+  committed = state.committed;
+  is_committed = false;
+}

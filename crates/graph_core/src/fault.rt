@@ -1,13 +1,21 @@
 ghost use Rattle.std.specs.Prelude.{◌≡◌};
 
 use rf_base::Memory;
+use thiserror::Error;
 
 /// Why an edge was refused.
-#[derive(Clone, Copy, Debug, PartialEq, Eq)]
+#[derive(Clone, Copy, Debug, PartialEq, Eq, Error)]
 pub enum ConnectFault {
+    /// The one end is no output, or the other no input.
+    #[error("BadPort")]
     BadPort,
+    /// One of the two ports has an edge.
+    #[error("PortTaken")]
     PortTaken,
+    /// The edge would close a cycle.
+    #[error("Cycle")]
     Cycle,
+    #[error("out of memory")]
     Memory,
 }
 
@@ -22,9 +30,12 @@ impl From<Memory> for ConnectFault {
 }
 
 /// Why a value was refused.
-#[derive(Clone, Copy, Debug, PartialEq, Eq)]
+#[derive(Clone, Copy, Debug, PartialEq, Eq, Error)]
 pub enum SetFault {
+    /// The block has no such port.
+    #[error("NoProperty")]
     NoProperty,
+    #[error("out of memory")]
     Memory,
 }
 

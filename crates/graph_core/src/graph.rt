@@ -1,9 +1,9 @@
 ghost use Rattle.std.specs.Prelude.{◌≡◌, ◌<◌, ◌↔◌, [], true, false, Err, IsTrue, IfOk, OnOk, OnErr, IfSome, IfNone, Contains, length};
 ghost use Rattle.block_library.specs.Blocks.{FitsKind};
 ghost use Rattle.graph_core.specs.Derivation.{Settles};
-ghost use Rattle.graph_core.specs.Pairs.{Lacks};
-ghost use Rattle.graph_core.specs.State.{HasBadPort, HasCycle, HasNoPort, HasTakenPort, IsGraph, IsSet};
-ghost use Rattle.graph_core.specs.State.{state, with_edge, with_kind, with_values};
+ghost use Rattle.graph_core.specs.Pairs.{Lacks, value_of};
+ghost use Rattle.graph_core.specs.State.{HasBadPort, HasCycle, HasNoPort, HasTakenPort, IsGraph};
+ghost use Rattle.graph_core.specs.State.{state, with_edge, with_kind, with_user, with_values};
 
 use crate::connect::refusal;
 use crate::{ConnectFault, Edge, PortAt, PropAt, SetFault, Side, Values, ports_at};
@@ -93,7 +93,7 @@ impl Graph {
     /// The graph is uncommitted then.
     pub fn set(&mut self, at: PropAt, value: u64) -> Result<(), SetFault>
         ensures absent { (result ≡ Err SetFault.NoProperty) ↔ HasNoPort self.old at }
-        ensures ok { OnOk result (IsSet self.old self.new at value) }
+        ensures ok { OnOk result (self.new ≡ with_user self.old at value) }
         ensures err { OnErr result (self.new ≡ self.old) }
     {
         if at.port >= ports_at(self.kinds.as_slice(), at.block, at.side) {
@@ -137,6 +137,7 @@ impl Graph {
 
     /// The user's value of a property.
     pub fn user(&self, at: PropAt) -> Option<u64>
+        ensures value { result ≡ value_of self.now.diagram.users at }
         ensures held { IfSome result (λ value. Contains self.now.diagram.users (at, value)) }
         ensures none { IfNone result (Lacks self.now.diagram.users at) }
     {
@@ -145,6 +146,7 @@ impl Graph {
 
     /// The value of a property at the last commit.
     pub fn value(&self, at: PropAt) -> Option<u64>
+        ensures value { result ≡ value_of self.now.committed at }
         ensures held { IfSome result (λ value. Contains self.now.committed (at, value)) }
         ensures none { IfNone result (Lacks self.now.committed at) }
     {

@@ -1,3 +1,5 @@
+use std::fmt;
+
 /// The side of a block that a port is on.
 #[derive(Clone, Copy, Debug, PartialEq, Eq, Hash)]
 pub enum Side {
@@ -41,4 +43,44 @@ pub struct Edge {
 pub enum Rule {
     Edge(u16),
     Block(u16),
+}
+
+impl fmt::Display for Side {
+    fn fmt<W: fmt::Write>(&self, f: &mut fmt::Formatter<W>) -> fmt::Result {
+        match self {
+            Side::Into => write!(f, "in"),
+            Side::Out => write!(f, "out"),
+        }
+    }
+}
+
+impl fmt::Display for Prop {
+    fn fmt<W: fmt::Write>(&self, f: &mut fmt::Formatter<W>) -> fmt::Result {
+        match self {
+            Prop::Rate => write!(f, "rate"),
+            Prop::Item => write!(f, "item"),
+            Prop::Spp => write!(f, "spp"),
+        }
+    }
+}
+
+/// `block B SIDE P PROP`, as in `block 0 out 0 spp`.
+impl fmt::Display for PropAt {
+    fn fmt<W: fmt::Write>(&self, f: &mut fmt::Formatter<W>) -> fmt::Result {
+        write!(
+            f,
+            "block {} {} {} {}",
+            self.block, self.side, self.port, self.prop
+        )
+    }
+}
+
+/// `edge K` or `block B`.
+impl fmt::Display for Rule {
+    fn fmt<W: fmt::Write>(&self, f: &mut fmt::Formatter<W>) -> fmt::Result {
+        match self {
+            Rule::Edge(number) => write!(f, "edge {number}"),
+            Rule::Block(number) => write!(f, "block {number}"),
+        }
+    }
 }

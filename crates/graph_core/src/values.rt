@@ -1,5 +1,5 @@
 ghost use Rattle.std.specs.Prelude.{◌≡◌, ◌==◌, [], ◌∷◌, ◌++◌, length, slice_get, Some, IfSome, IfNone, OnOk, OnErr, Contains};
-ghost use Rattle.graph_core.specs.Pairs.{Lacks, IsPut};
+ghost use Rattle.graph_core.specs.Pairs.{Lacks, IsPut, value_of, with_value};
 
 use crate::PropAt;
 use indexmap::IndexMap;
@@ -39,7 +39,8 @@ impl Values {
 
     /// Gives the property the value, in place of what it had.
     pub fn put(&mut self, at: PropAt, value: u64) -> Result<(), Memory>
-        ensures ok { OnOk result (IsPut self.old self.new at value) }
+        ensures ok { OnOk result (self.new ≡ with_value self.old at value) }
+        ensures put { OnOk result (IsPut self.old self.new at value) }
         ensures last { Lacks self.old at → OnOk result (self.new ≡ self.old ++ (at, value) ∷ []) }
         ensures err { OnErr result (self.new ≡ self.old) }
     {
@@ -49,6 +50,7 @@ impl Values {
 
     /// The value of the property.
     pub fn get(&self, at: PropAt) -> Option<u64>
+        ensures value { result ≡ value_of self.now at }
         ensures held { IfSome result (λ value. Contains self.now (at, value)) }
         ensures none { IfNone result (Lacks self.now at) }
     {

@@ -14,7 +14,7 @@ use Rattle.graph_core.specs.Derivation.IsDerivation.{none, set, given}
 use Rattle.graph_core.specs.Pairs.{Pair, Lacks}
 use Rattle.graph_core.specs.Ports.{properties, port_total}
 use Rattle.graph_core.specs.State.{IsDiagram}
-use Rattle.graph_core.proofs.Places.{two_ports}
+use Rattle.graph_core.proofs.Laws.{two_ports}
 use Rattle.property_resolver.specs.Work.{one_if_some, edge_work, work, most_work}
 use Rattle.property_resolver.proofs.Listed.{listed, listed_length, all_properties, EndsAt, ends_at}
 use Rattle.property_resolver.proofs.Listed.EndsAt.{forth, back}

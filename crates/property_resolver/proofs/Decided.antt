@@ -10,7 +10,7 @@ use Rattle.property_resolver.specs.declared.fault.CommitFault.TheVariants.{Clash
 use Rattle.graph_core.specs.Derivation.{Diagram, IsClosed, Settles}
 use Rattle.graph_core.specs.Pairs.{Pair, Lacks}
 use Rattle.graph_core.specs.Ports.{properties}
-use Rattle.graph_core.proofs.Derived.{included, one_value}
+use Rattle.graph_core.proofs.Laws.{included, one_value}
 use Rattle.property_resolver.specs.Causes.{IsCause, IsClash, IsNotWhole}
 use Rattle.property_resolver.specs.Missing.{AllHeld, IsFirstMissing}
 use Rattle.property_resolver.specs.Spreads.{HasAll}

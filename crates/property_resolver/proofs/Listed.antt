@@ -20,7 +20,7 @@ use Rattle.graph_core.specs.Edges.{IsJoined}
 use Rattle.graph_core.specs.Pairs.{Pair}
 use Rattle.graph_core.specs.Ports.{port_count, ports_at, port_total, IsProperty, port_properties, side_properties, block_properties, properties_from, properties}
 use Rattle.graph_core.specs.State.{IsDiagram}
-use Rattle.graph_core.proofs.Derived.{none_in, pushed_pair}
+use Rattle.graph_core.proofs.Laws.{none_in, pushed_pair}
 use Rattle.property_resolver.proofs.Learned.{same_item}
 use Rattle.property_resolver.proofs.Started.{read_in}
 

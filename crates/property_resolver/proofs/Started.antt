@@ -6,7 +6,7 @@ use Rattle.graph_core.specs.declared.place.PropAt.{PropAt}
 use Rattle.graph_core.specs.Derivation.{Diagram, IsDerivation}
 use Rattle.graph_core.specs.Derivation.IsDerivation.{none, set}
 use Rattle.graph_core.specs.Pairs.{Pair}
-use Rattle.graph_core.proofs.Derived.{none_in, pushed_pair}
+use Rattle.graph_core.proofs.Laws.{none_in, pushed_pair}
 use Rattle.property_resolver.specs.Spreads.{Keeps, HasAll}
 use Rattle.property_resolver.specs.Spreads.Keeps.{stays, taken}
 use Rattle.property_resolver.proofs.Learned.{same_item, got}

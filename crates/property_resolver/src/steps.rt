@@ -5,7 +5,7 @@ use std::sync::ledger::{Blank, Book, Ledger, Share};
 
 /// How many times an edge or a block was applied to a value, as the ledger's only counter.
 ///
-/// It stays at 2^64 - 1.
+/// The ledger's total is the number of ticks; the count is that total, and stays at 2^64 - 1.
 #[derive(Drop)]
 pub struct Steps<L: Ledger> {
     book: Book<L>,
@@ -14,13 +14,14 @@ pub struct Steps<L: Ledger> {
 }
 
 impl<L: Ledger> Model for Steps<L> {
-    ghost use Rattle.std.specs.Prelude.{ℕ, ◌<◌};
+    ghost use Rattle.std.specs.Prelude.{ℕ, ◌≡◌, ◌-◌, ◌^◌, ◌<◌, min};
 
     ghost Value = { ℕ };
 
     ghost view = { λ steps. steps.count };
 
-    ghost invariant = { λ steps. 0 < steps.share.parts };
+    ghost invariant = { λ steps. (0 < steps.share.parts) × (steps.count ≡ min steps.book.total
+        (2 ^ 64 - 1)) };
 }
 
 impl<L: Ledger> Steps<L> {

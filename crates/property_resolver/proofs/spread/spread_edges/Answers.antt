@@ -2,7 +2,7 @@ use Rattle.std.proofs.Common.{◌≡◌, ◌∙◌, ◌<◌, ◌≤◌, ◌+◌,
 use Rattle.std.proofs.lemmas.Result.{err_from_is_err_and}
 use Rattle.graph_core.specs.declared.place.Edge.{Edge}
 use Rattle.graph_core.specs.Derivation.{across}
-use Rattle.graph_core.proofs.Graphs.{few_edges}
+use Rattle.graph_core.proofs.Laws.{few_edges}
 use Rattle.property_resolver.proofs.Counted.{cost_pass, cost_tick, cost_whole}
 use Rattle.property_resolver.proofs.Learned.{kept, contradicted, edges_pass, edges_step, edge_gives}
 use Rattle.property_resolver.proofs.spread.spread_edges.Goals as goal

@@ -6,4 +6,4 @@ pub invariant_of-self-2 : goal.invariant_of-self-2
 invariant_of-self-2 c =
     let s = c.self.inside in
     let ports = rw c.as_slice.ensures at c.ports_at.ensures in
-    set_kept s.kinds s.edges s.users s.committed s.is_committed c.self.invariant c.put.new.self c.args.at c.args.value (omega (arith, ports)) c.in_ok-put.ensures.ok
+    set_kept s.kinds s.edges s.users s.committed s.is_committed c.self.invariant c.put.new.self c.args.at c.args.value (omega (arith, ports)) c.in_ok-put.ensures.put
