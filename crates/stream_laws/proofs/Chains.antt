@@ -60,7 +60,7 @@ ends_few op told [] h = omega arith
 ends_few op told (Data place load ∷ es) h = ends_few op told es h
 ends_few op told (Command found means ∷ es) h = let e = ap orders h.2 in omega arith
 
--- a command is sent where none was under way
+-- a command is sent while none was under way
 pub ends_order : {A : Type 0} (op : CmdOp) (told : Count) (es : List (Entry A)) → orders es ≡ 0 → EndsWith op told (es ++ Command op told ∷ [])
 ends_order op told [] h = (refl, refl, refl)
 ends_order op told (Data place load ∷ es) h = ends_order op told es h

@@ -1,10 +1,12 @@
 -- The laws of a stream follow from its invariant.
-use Rattle.std.proofs.Common.{◌≡◌, ℕ, zero, suc, ◌+◌, ◌-◌, ◌<◌, ◌≤◌, ◌%◌, ◌^◌, Some, List, [], ◌∷◌, ◌++◌, length, take, drop, slice_get, refl, ap, sym, ◌∙◌, subst, arith, length-drop}
+use Rattle.std.proofs.Common.{◌≡◌, ℕ, zero, suc, ◌+◌, ◌-◌, ◌*◌, ◌<◌, ◌≤◌, ◌%◌, ◌^◌, Some, List, [], ◌∷◌, ◌++◌, length, take, drop, slice_get, refl, ap, sym, ◌∙◌, subst, arith, length-drop}
 use Rattle.std.proofs.lemmas.List.{length-take-le, take-append-drop}
 use mathlib.Core.List.{IsPrefix}
 use Rattle.stream_endpoint.specs.Counts.{minus_modulo, spelled, spelled_minus}
+use Rattle.stream_endpoint.specs.declared.state.Gap.{Gap}
 use Rattle.stream_endpoint.specs.InEnd.{code_by, info_by}
-use Rattle.stream_laws.specs.Machine.{Cut, Load, State, Terms, opens}
+use Rattle.stream_endpoint.proofs.Laws.{status_spells}
+use Rattle.stream_laws.specs.Machine.{Cut, Load, State, Terms, number_at, opens}
 use Rattle.stream_laws.specs.Acts.{Act, IsLegal, after, after_all}
 use Rattle.stream_laws.specs.Chains.{IsLost, flying, packets_told, bytes_told}
 use Rattle.stream_laws.specs.Epochs.{EachEpoch, IsEpoch, begun, origin, reach}
@@ -70,7 +72,7 @@ epoch_prefixes {A} sent given lost (cut ∷ cuts) here ls lg h = (
 )
 
 pub epochwise : {A : Type 0} (terms : Terms) (st : State A) → IsRun terms st → IsEpochwise terms st
-epochwise terms st run = epoch_prefixes st.sent st.given st.lost st.cuts (reach st.sent st.given) (omega arith) (omega arith) (holds_run terms st run).epochs
+epochwise terms st run = epoch_prefixes st.core.sent st.core.given st.core.lost st.core.cuts (reach st.core.sent st.core.given) (omega arith) (omega arith) (holds_run terms st run).epochs
 
 epoch_cuts : {A : Type 0} (sent given : List (Load A)) (lost : List ℕ) (cuts : List Cut) (here : Cut)
     → EachEpoch (IsEpoch sent given lost) cuts here → EachEpoch (λ from here. (from.sent ≤ here.sent) × (from.given ≤ here.given)) cuts here
@@ -78,7 +80,7 @@ epoch_cuts {A} sent given lost [] here h = (h.more_sent, h.more_given)
 epoch_cuts {A} sent given lost (cut ∷ cuts) here h = ((h.0.more_sent, h.0.more_given), epoch_cuts sent given lost cuts cut h.1)
 
 pub cut_in_order : {A : Type 0} (terms : Terms) (st : State A) → IsRun terms st → IsCut terms st
-cut_in_order terms st run = epoch_cuts st.sent st.given st.lost st.cuts (reach st.sent st.given) (holds_run terms st run).epochs
+cut_in_order terms st run = epoch_cuts st.core.sent st.core.given st.core.lost st.core.cuts (reach st.core.sent st.core.given) (holds_run terms st run).epochs
 
 epoch_stops : {A : Type 0} (sent given : List (Load A)) (lost : List ℕ) (cuts : List Cut) (here : Cut) → EachEpoch (IsEpoch sent given lost) cuts here
     → EachEpoch (λ from here. (k : ℕ) → IsLost lost k → from.sent ≤ k → k < here.sent → from.sent + (here.given - from.given) ≤ k) cuts here
@@ -86,12 +88,12 @@ epoch_stops {A} sent given lost [] here h = λ k l a b. (let p = h.before_loss k
 epoch_stops {A} sent given lost (cut ∷ cuts) here h = (λ k l a b. (let p = h.0.before_loss k l a b in omega arith), epoch_stops sent given lost cuts cut h.1)
 
 pub stops_at_loss : {A : Type 0} (terms : Terms) (st : State A) → IsRun terms st → StopsAtLoss terms st
-stops_at_loss terms st run = epoch_stops st.sent st.given st.lost st.cuts (reach st.sent st.given) (holds_run terms st run).epochs
+stops_at_loss terms st run = epoch_stops st.core.sent st.core.given st.core.lost st.core.cuts (reach st.core.sent st.core.given) (holds_run terms st run).epochs
 
 pub taken_of_given : {A : Type 0} (terms : Terms) (st : State A) → IsRun terms st → IsTakenOfGiven terms st
 taken_of_given terms st run =
     let held = (holds_run terms st run).counted.held_packets in
-    (length-take-le st.taken st.given (omega arith), (drop st.taken st.given, take-append-drop st.taken st.given))
+    (length-take-le st.core.taken st.core.given (omega arith), (drop st.core.taken st.core.given, take-append-drop st.core.taken st.core.given))
 
 pub within_capacity : {A : Type 0} (terms : Terms) (st : State A) → IsRun terms st → IsWithin terms st
 within_capacity terms st run =
@@ -118,22 +120,19 @@ room_ahead terms st run place load rest e good number =
 pub few_epochs : {A : Type 0} (terms : Terms) (st : State A) → IsRun terms st → HasFewEpochs terms st
 few_epochs terms st run = let p = (holds_run terms st run).paid.ended in omega arith
 
-pub reports_gap : {A : Type 0} (terms : Terms) (st : State A) → IsRun terms st → ReportsGap terms st
-reports_gap terms st run gap broken = (ap code_by broken, ap info_by broken)
-
 pub broken_by_loss : {A : Type 0} (terms : Terms) (st : State A) → IsRun terms st → IsBrokenByLoss terms st
 broken_by_loss {A} terms st run gap broken =
     let h = holds_run terms st run in
-    let received = subst (λ g. Received terms.start.packets st.receiver.reached.packets st.next st.given st.lost (begun st.cuts) g) broken h.received in
+    let received = subst (λ g. Received terms.start.packets st.core.receiver.reached.packets st.next st.core.given st.core.lost (begun st.core.cuts) g) broken h.received in
     let torn = received.shape in
     let reached_is = received.reached_is in
     let from_here = received.from_here in
-    let last = epochs_last (IsEpoch st.sent st.given st.lost) st.cuts (reach st.sent st.given) h.epochs in
-    let stand = stand_count st.lost st.next st.forward (length st.sent) h.ordered.stand in
+    let last = epochs_last (IsEpoch st.core.sent st.core.given st.core.lost) st.core.cuts (reach st.core.sent st.core.given) h.epochs in
+    let stand = stand_count st.core.lost st.next st.forward (length st.core.sent) h.ordered.stand in
     let later = torn.later in
     let arrived = torn.arrived in
-    let first : ℕ = st.receiver.reached.packets - terms.start.packets in
-    let at : terms.start.packets + first ≡ st.receiver.reached.packets = omega arith in
+    let first : ℕ = st.core.receiver.reached.packets - terms.start.packets in
+    let at : terms.start.packets + first ≡ st.core.receiver.reached.packets = omega arith in
     record {
       place = first;
       later = torn.place;
@@ -151,6 +150,25 @@ broken_by_loss {A} terms st run gap broken =
       got = torn.got;
     }
 
+gap_info : (gap : Gap) (expected got : ℕ) → gap.expected ≡ expected → gap.got ≡ got
+    → gap.expected * 65536 + gap.got ≡ expected * 65536 + got
+gap_info gap expected got e g = ap (λ n. n * 65536 + gap.got) e ∙ ap (λ n. expected * 65536 + n) g
+
+pub reports_gap : {A : Type 0} (terms : Terms) (st : State A) → IsRun terms st → ReportsGap terms st
+reports_gap terms st run me gap broken =
+    let told = broken_by_loss terms st run gap broken in
+    let balance = (holds_run terms st run).balanced in
+    let spells = status_spells (record { me = me; flow = terms.flow; receiver = st.core.receiver }) balance.held_packets balance.held_bytes in
+    let info : info_by st.core.receiver.broken ≡ number_at terms told.place * 65536 + number_at terms told.later =
+    ap info_by broken ∙ gap_info gap _ _ told.expected told.got in
+    record {
+      gap = gap;
+      told = told;
+      code = ap code_by broken;
+      info = info;
+      counts = spells.counts;
+    }
+
 spelled_packets : (a b : ℕ) → minus_modulo (2 ^ 40) a (b % 2 ^ 40) ≡ minus_modulo (2 ^ 40) a b
 spelled_packets a b = let e : b % 2 ^ 40 % 2 ^ 40 ≡ b % 2 ^ 40 = omega arith in ap (λ n. (a + (2 ^ 40 - n)) % 2 ^ 40) e
 
@@ -159,13 +177,13 @@ spelled_bytes a b = let e : b % 2 ^ 64 % 2 ^ 64 ≡ b % 2 ^ 64 = omega arith in 
 
 pub reads_back : {A : Type 0} (terms : Terms) (st : State A) → IsRun terms st → ReadsBack terms st
 reads_back terms st run status rest e =
-    let p = spelled_packets st.sender.sent.packets status.told.packets in
-    let b = spelled_bytes st.sender.sent.bytes status.told.bytes in
-    let same : spelled_minus st.sender.sent (spelled status.told) ≡ spelled_minus st.sender.sent status.told = λ i. record { packets = p i; bytes = b i } in
+    let p = spelled_packets st.core.sender.sent.packets status.told.packets in
+    let b = spelled_bytes st.core.sender.sent.bytes status.told.bytes in
+    let same : spelled_minus st.core.sender.sent (spelled status.told) ≡ spelled_minus st.core.sender.sent status.told = λ i. record { packets = p i; bytes = b i } in
     same ∙ read_back terms st status rest run.valid (holds_run terms st run) e
 
 pub tells_totals : {A : Type 0} (terms : Terms) (st : State A) → IsRun terms st → TellsTotals terms st
-tells_totals terms st run told rest e = (renew_talk terms st told rest st.sender.state e (holds_run terms st run).talk).1
+tells_totals terms st run told rest e = (renew_talk terms st told rest st.core.sender.state e (holds_run terms st run).talk).1
 
 pub numbers_tell : {A : Type 0} (terms : Terms) (st : State A) → IsRun terms st → NumbersTell terms st
 numbers_tell terms st run place load rest e number =

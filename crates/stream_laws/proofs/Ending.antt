@@ -43,13 +43,13 @@ none_means p b e = let both = both_true (p == 0) (b == 0) e in (is_zero p both.0
 
 -- what is left of a drained stream: nothing is under way but statuses
 pub record IsSettled {A : Type 0} (st : State A) : Type 0 where
-  pub nothing_owed : st.sender.outstanding.packets ≡ 0
-  pub no_bytes_owed : st.sender.outstanding.bytes ≡ 0
+  pub nothing_owed : st.core.sender.outstanding.packets ≡ 0
+  pub no_bytes_owed : st.core.sender.outstanding.bytes ≡ 0
   pub no_data : (flying st.forward).packets ≡ 0
   pub none_missing : st.missing.packets ≡ 0
-  pub all_reached : st.receiver.reached.packets ≡ st.sender.sent.packets
+  pub all_reached : st.core.receiver.reached.packets ≡ st.core.sender.sent.packets
 
-pub settled : {A : Type 0} (terms : Terms) (st : State A) → Holds terms st → is_covered st.sender ≡ true → IsSettled st
+pub settled : {A : Type 0} (terms : Terms) (st : State A) → Holds terms st → is_covered st.core.sender ≡ true → IsSettled st
 settled terms st h covered =
     let zero' = none_means _ _ covered in
     let p = zero'.0 in
@@ -76,27 +76,27 @@ gives_all {A} terms st run drained none_lost =
     let h = holds_run terms st run in
     let s = settled terms st h drained.covered in
     let unlost = ap length none_lost in
-    let uncut : length st.cuts ≡ 0 = (elim (cases_lt 0 (length st.cuts)) [ inl some ↦ (let n = h.unhurt.none_cut some in absurd (omega arith)) | inr low ↦ omega arith ]) in
-    let bare = no_cuts st.cuts uncut in
-    let epoch = subst (λ cuts. EachEpoch (IsEpoch st.sent st.given st.lost) cuts (reach st.sent st.given)) bare h.epochs in
-    let from : ((begun st.cuts).sent ≡ 0) × ((begun st.cuts).given ≡ 0) = (ap (λ cuts. (begun cuts).sent) bare, ap (λ cuts. (begun cuts).given) bare) in
+    let uncut : length st.core.cuts ≡ 0 = (elim (cases_lt 0 (length st.core.cuts)) [ inl some ↦ (let n = h.unhurt.none_cut some in absurd (omega arith)) | inr low ↦ omega arith ]) in
+    let bare = no_cuts st.core.cuts uncut in
+    let epoch = subst (λ cuts. EachEpoch (IsEpoch st.core.sent st.core.given st.core.lost) cuts (reach st.core.sent st.core.given)) bare h.epochs in
+    let from : ((begun st.core.cuts).sent ≡ 0) × ((begun st.core.cuts).given ≡ 0) = (ap (λ cuts. (begun cuts).sent) bare, ap (λ cuts. (begun cuts).given) bare) in
     let reached_is = h.received.reached_is in
     let total = h.counted.sent_packets in
     let all = s.all_reached in
-    let long : length st.given ≡ length st.sent = omega arith in
-    let same : st.given ≡ st.sent = same_by_get st.given st.sent (λ k below. (
+    let long : length st.core.given ≡ length st.core.sent = omega arith in
+    let same : st.core.given ≡ st.core.sent = same_by_get st.core.given st.core.sent (λ k below. (
     let e : 0 + k ≡ k = omega arith in
-    subst (λ n. slice_get st.given n ≡ slice_get st.sent n) e (epoch.same k (omega arith))
+    subst (λ n. slice_get st.core.given n ≡ slice_get st.core.sent n) e (epoch.same k (omega arith))
     )) long in
-    (same, subst (λ n. take n st.given ≡ st.sent) (sym drained.all_taken) (take-length st.given ∙ same))
+    (same, subst (λ n. take n st.core.given ≡ st.core.sent) (sym drained.all_taken) (take-length st.core.given ∙ same))
 
--- in Running no command is under way where all is known
-running_still : {A : Type 0} (terms : Terms) (st : State A) (state : OutState) → state ≡ Running → is_covered st.sender ≡ true → Talk terms state st
-    → (orders st.forward ≡ 0) × Rises bad_told 0 st.back (badness st.receiver.broken) × (badness st.receiver.broken ≤ st.missing.packets)
+-- in Running no command is under way if all is known
+running_still : {A : Type 0} (terms : Terms) (st : State A) (state : OutState) → state ≡ Running → is_covered st.core.sender ≡ true → Talk terms state st
+    → (orders st.forward ≡ 0) × Rises bad_told 0 st.back (badness st.core.receiver.broken) × (badness st.core.receiver.broken ≤ st.missing.packets)
 running_still terms st Opening is covered h = absurd (cc is)
-running_still terms st Running is covered h = (idle (cases_Bool st.sender.pinging), h.worse, h.some_missing)
+running_still terms st Running is covered h = (idle (cases_Bool st.core.sender.pinging), h.worse, h.some_missing)
   where
-    idle : (st.sender.pinging ≡ true) ⊎ (st.sender.pinging ≡ false) → orders st.forward ≡ 0
+    idle : (st.core.sender.pinging ≡ true) ⊎ (st.core.sender.pinging ≡ false) → orders st.forward ≡ 0
     idle (inl p) = absurd (let owing = (h.asked p).owing in cc (owing, covered))
     idle (inr q) = h.unasked q
 running_still terms st Halted is covered h = absurd (cc is)
@@ -128,9 +128,9 @@ drained_hear : {A : Type 0} (terms : Terms) (st : State A) (s : Told) (rest : Li
     → st.back ≡ s ∷ rest → IsDrained (after terms st (Hear s rest))
 drained_hear {A} terms st s rest valid h d e =
     let settled' = settled terms st h d.covered in
-    let still = running_still terms st st.sender.state d.running d.covered h.talk in
-    let rising = subst (Rising (known st.sender) (transferred st.receiver)) e h.rising in
-    let worse = subst (λ ss. Rises bad_told 0 ss (badness st.receiver.broken)) e still.1 in
+    let still = running_still terms st st.core.sender.state d.running d.covered h.talk in
+    let rising = subst (Rising (known st.core.sender) (transferred st.core.receiver)) e h.rising in
+    let worse = subst (λ ss. Rises bad_told 0 ss (badness st.core.receiver.broken)) e still.1 in
     let up = rises_le bad_told _ rest _ worse.1 in
     let some = still.2 in
     let none' = settled'.none_missing in
@@ -139,19 +139,19 @@ drained_hear {A} terms st s rest valid h d e =
     let first = rising.packets.0 in
     let second = rising.bytes.0 in
     let good : badness s.gap ≡ 0 = omega arith in
-    let left : Count = minus st.sender.sent s.told in
+    let left : Count = minus st.core.sender.sent s.told in
     let zero' : is_none left ≡ true = none_left left.packets left.bytes (omega arith) (omega arith) in
-    let hearing : Sender → State A = λ later. record st { sender = later; back = rest } in
-    let stays : IsDrained (hearing (learns left st.sender)) = record {
+    let hearing : Sender → State A = λ later. record st { core = record (st.core) { sender = later }; back = rest } in
+    let stays : IsDrained (hearing (learns left st.core.sender)) = record {
       closed = d.closed;
       none_ready = d.none_ready;
       running = d.running;
       covered = zero';
       all_taken = d.all_taken;
     } in
-    let done : IsDrained (hearing (hears_left terms.policy (code_by s.gap) left st.sender)) =
-    subst (λ later. IsDrained (hearing later)) (sym (heard_stays terms.policy left st.sender s.gap d.running good zero')) stays in
-    subst (λ c. IsDrained (hearing (hears_left terms.policy (code_by s.gap) c st.sender))) (sym (read_back terms st s rest valid h e)) done
+    let done : IsDrained (hearing (hears_left terms.policy (code_by s.gap) left st.core.sender)) =
+    subst (λ later. IsDrained (hearing later)) (sym (heard_stays terms.policy left st.core.sender s.gap d.running good zero')) stays in
+    subst (λ c. IsDrained (hearing (hears_left terms.policy (code_by s.gap) c st.core.sender))) (sym (read_back terms st s rest valid h e)) done
 
 no_packet : {A : Type 0} (es : List (Entry A)) (place : ℕ) (load : Load A) (rest : List (Entry A)) → (flying es).packets ≡ 0 → es ≡ Data place load ∷ rest → ⊥
 no_packet es place load rest zero' e = let p = ap (λ fs. (flying fs).packets) e in omega arith
@@ -185,16 +185,16 @@ drained_after terms st valid h d s idle (LoseStatus before status behind) allowe
 pub stays_drained : {A : Type 0} (terms : Terms) (st : State A) → IsRun terms st → StaysDrained terms st
 stays_drained terms st run d act allowed =
     let h = holds_run terms st run in
-    drained_after terms st run.valid h d (settled terms st h d.covered) (running_still terms st st.sender.state d.running d.covered h.talk).0 act allowed
+    drained_after terms st run.valid h d (settled terms st h d.covered) (running_still terms st st.core.sender.state d.running d.covered h.talk).0 act allowed
 
 -- whatever stands first on its way arrives
 data_arrives : {A : Type 0} (terms : Terms) (st : State A) (place : ℕ) (load : Load A) (rest : List (Entry A)) (broken : Option Gap) (b : Bool)
-    → st.forward ≡ Data place load ∷ rest → st.receiver.broken ≡ broken → (number_at terms place == expected st.receiver) ≡ b
+    → st.forward ≡ Data place load ∷ rest → st.core.receiver.broken ≡ broken → (number_at terms place == expected st.core.receiver) ≡ b
     → (act : Act A) × IsOwn act × Allowed terms st act
 data_arrives terms st place load rest None true e is test =
-    (Keep place load rest, tt, (e, rw is (ap (λ (t : Bool). cond t Kept (GapAt (expected st.receiver) (number_at terms place))) test)))
+    (Keep place load rest, tt, (e, rw is (ap (λ (t : Bool). cond t Kept (GapAt (expected st.core.receiver) (number_at terms place))) test)))
 data_arrives terms st place load rest None false e is test =
-    (Break place load rest, tt, (e, rw is (ap (λ (t : Bool). cond t Kept (GapAt (expected st.receiver) (number_at terms place))) test)))
+    (Break place load rest, tt, (e, rw is (ap (λ (t : Bool). cond t Kept (GapAt (expected st.core.receiver) (number_at terms place))) test)))
 data_arrives terms st place load rest (Some gap) b e is test = (Discard place load rest, tt, (e, rw is refl))
 
 command_arrives : {A : Type 0} (terms : Terms) (st : State A) (op : CmdOp) (told : Count) (rest : List (Entry A)) → st.forward ≡ Command op told ∷ rest
@@ -206,15 +206,15 @@ command_arrives terms st (Other code) told rest e = (Obey (Other code) told rest
 
 first_arrives : {A : Type 0} (terms : Terms) (st : State A) (e : Entry A) (rest : List (Entry A)) → st.forward ≡ e ∷ rest
     → (act : Act A) × IsOwn act × Allowed terms st act
-first_arrives terms st (Data place load) rest is = data_arrives terms st place load rest st.receiver.broken (number_at terms place == expected st.receiver) is refl refl
+first_arrives terms st (Data place load) rest is = data_arrives terms st place load rest st.core.receiver.broken (number_at terms place == expected st.core.receiver) is refl refl
 first_arrives terms st (Command op told) rest is = command_arrives terms st op told rest is
 
 pub quiet_at_rest : {A : Type 0} (terms : Terms) (st : State A) → IsRun terms st → IsQuietAtRest terms st
 quiet_at_rest {A} terms st run rest = record {
   none_forward = ahead st.forward refl;
   none_back = behind st.back refl;
-  none_due = due (cases_Bool (is_due st.receiver));
-  all_taken = taken (cases_lt st.taken (length st.given));
+  none_due = due (cases_Bool (is_due st.core.receiver));
+  all_taken = taken (cases_lt st.core.taken (length st.core.given));
 }
   where
     ahead : (es : List (Entry A)) → st.forward ≡ es → es ≡ []
@@ -225,11 +225,11 @@ quiet_at_rest {A} terms st run rest = record {
     behind [] is = refl
     behind (s ∷ ss) is = absurd (rest (Hear s ss) tt is)
 
-    due : (is_due st.receiver ≡ true) ⊎ (is_due st.receiver ≡ false) → is_due st.receiver ≡ false
+    due : (is_due st.core.receiver ≡ true) ⊎ (is_due st.core.receiver ≡ false) → is_due st.core.receiver ≡ false
     due (inl yes') = absurd (rest Report tt yes')
     due (inr no') = no'
 
-    taken : (st.taken < length st.given) ⊎ (length st.given ≤ st.taken) → st.taken ≡ length st.given
+    taken : (st.core.taken < length st.core.given) ⊎ (length st.core.given ≤ st.core.taken) → st.core.taken ≡ length st.core.given
     taken (inl minus') = absurd (rest (Take 1) tt (omega arith, omega arith))
     taken (inr all) = let held = (holds_run terms st run).counted.held_packets in omega arith
 
@@ -244,10 +244,10 @@ credit_or flow owed wire = go (cases_lt flow.cap_bytes (owed.bytes + wire)) (cas
     go (inr few) (inr minus') = inl (few, minus')
 
 -- a running stream that is stuck: either it is covered, or a PING is called for
-running_ends : {A : Type 0} (terms : Terms) (st : State A) → IsValid terms.flow → Holds terms st → st.sender.state ≡ Running → IsQuiet st
+running_ends : {A : Type 0} (terms : Terms) (st : State A) → IsValid terms.flow → Holds terms st → st.core.sender.state ≡ Running → IsQuiet st
     → ((load : Load A) (rest : List (Load A)) → Allowed terms st (Enter load rest) → ⊥) → ((op : CmdOp) → Allowed terms st (Order op) → ⊥)
-    → (closed : Bool) → st.closed ≡ closed → (ready : List (Load A)) → st.ready ≡ ready
-    → (is_covered st.sender ≡ true) ⊎ (is_covered st.sender ≡ false)
+    → (closed : Bool) → st.core.closed ≡ closed → (ready : List (Load A)) → st.core.ready ≡ ready
+    → (is_covered st.core.sender ≡ true) ⊎ (is_covered st.core.sender ≡ false)
     → IsDrained st ⊎ (IsHalted terms st ⊎ Waits st)
 running_ends terms st valid h run quiet no_enter no_order true c [] r (inl covered) =
     inl (record { closed = c; none_ready = r; running = run; covered = covered; all_taken = quiet.all_taken })
@@ -256,7 +256,7 @@ running_ends terms st valid h run quiet no_enter no_order true c [] r (inr owing
       running = run;
       quiet = quiet;
       not_covered = owing;
-      stuck = subst (λ ps. IsStuck terms.flow st.sender.outstanding st.closed ps) (sym r) c;
+      stuck = subst (λ ps. IsStuck terms.flow st.core.sender.outstanding st.core.closed ps) (sym r) c;
     }))
 running_ends terms st valid h run quiet no_enter no_order false c [] r covered = inr (inr (record { running = run; none_ready = r; goes_on = c }))
 running_ends {A} terms st valid h run quiet no_enter no_order closed c (p ∷ ps) r (inl covered) =
@@ -272,23 +272,23 @@ running_ends {A} terms st valid h run quiet no_enter no_order closed c (p ∷ ps
       running = run;
       quiet = quiet;
       not_covered = owing;
-      stuck = subst (λ qs. IsStuck terms.flow st.sender.outstanding st.closed qs) (sym r) (stuck (credit_or terms.flow st.sender.outstanding p.wire));
+      stuck = subst (λ qs. IsStuck terms.flow st.core.sender.outstanding st.core.closed qs) (sym r) (stuck (credit_or terms.flow st.core.sender.outstanding p.wire));
     }))
   where
-    stuck : HasCredit terms.flow st.sender.outstanding p.wire ⊎ (HasCredit terms.flow st.sender.outstanding p.wire → ⊥)
-        → HasCredit terms.flow st.sender.outstanding p.wire → ⊥
+    stuck : HasCredit terms.flow st.core.sender.outstanding p.wire ⊎ (HasCredit terms.flow st.core.sender.outstanding p.wire → ⊥)
+        → HasCredit terms.flow st.core.sender.outstanding p.wire → ⊥
     stuck (inl credit) = absurd (no_enter p ps (r, (run, credit)))
     stuck (inr none') = none'
 
-ends_by : {A : Type 0} (terms : Terms) (st : State A) → IsValid terms.flow → Holds terms st → (state : OutState) → st.sender.state ≡ state → IsQuiet st
+ends_by : {A : Type 0} (terms : Terms) (st : State A) → IsValid terms.flow → Holds terms st → (state : OutState) → st.core.sender.state ≡ state → IsQuiet st
     → ((load : Load A) (rest : List (Load A)) → Allowed terms st (Enter load rest) → ⊥) → ((op : CmdOp) → Allowed terms st (Order op) → ⊥)
     → Talk terms state st → IsDrained st ⊎ (IsHalted terms st ⊎ Waits st)
 ends_by terms st valid h Opening is quiet no_enter no_order talk = absurd (no_order Init (is, inr quiet))
 ends_by terms st valid h Running is quiet no_enter no_order talk =
-    running_ends terms st valid h is quiet no_enter no_order st.closed refl st.ready refl (cases_Bool (is_covered st.sender))
+    running_ends terms st valid h is quiet no_enter no_order st.core.closed refl st.core.ready refl (cases_Bool (is_covered st.core.sender))
 ends_by terms st valid h Halted is quiet no_enter no_order talk = inr (inl (record { state = is; off = talk.off; some_lost = h.unhurt.not_halted is }))
 ends_by terms st valid h Resyncing is quiet no_enter no_order talk = absurd (no_order Resync (is, inr quiet))
 
 pub ends_well : {A : Type 0} (terms : Terms) (st : State A) → IsRun terms st → EndsWell terms st
 ends_well terms st run quiet no_enter no_order =
-    let h = holds_run terms st run in ends_by terms st run.valid h st.sender.state refl quiet no_enter no_order h.talk
+    let h = holds_run terms st run in ends_by terms st run.valid h st.core.sender.state refl quiet no_enter no_order h.talk

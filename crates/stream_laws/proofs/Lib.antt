@@ -15,3 +15,6 @@ pub mod Worked
 pub mod Ending
 pub mod Falling
 pub mod FallingHear
+pub mod Bounds
+pub mod Runs
+pub mod Laws

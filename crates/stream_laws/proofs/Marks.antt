@@ -26,7 +26,7 @@ paid_lose state missing more cuts back fewer due losses h = let e = h.ended in r
   unanswered = λ s m g. omega arith;
 }
 
--- where something is missing already, more may be
+-- if something is missing already, more may be
 pub paid_miss : (state : OutState) (missing more : ℕ) (cuts : List Cut) (back : List Told) (due later : Bool) (losses : ℕ)
     → 1 ≤ missing → missing ≤ more → Paid state missing cuts back due losses → Paid state more cuts back later losses
 paid_miss state missing more cuts back due later losses some le h = let b = h.broken_off some in record {

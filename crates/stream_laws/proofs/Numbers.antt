@@ -9,7 +9,7 @@ use Rattle.stream_endpoint.specs.Flow.{HasCredit}
 use Rattle.chdr_words.specs.declared.command.CmdOp.{CmdOp}
 use Rattle.stream_laws.specs.Machine.{Entry, Data, Command, Load, Told, count_of}
 use Rattle.stream_laws.specs.Chains.{bytes_told, flying, packets_told}
-use Rattle.stream_laws.specs.Invariant.{Balanced, Counted, Credited, Rising}
+use Rattle.stream_laws.specs.Invariant.{Balanced, Counted, Credited, Rising, Started}
 use Rattle.stream_laws.proofs.Chains.{flying_bytes-append, flying_packets-append, rises_add, rises_from, rises_le, rises_to, rises_without}
 
 bytes-append : {A : Type 0} (xs ys : List (Load A)) → (count_of (xs ++ ys)).bytes ≡ (count_of xs).bytes + (count_of ys).bytes
@@ -36,7 +36,7 @@ drop_more {A} xs zero m = let e : zero + m ≡ m = omega arith in rw e refl
 drop_more {A} [] (suc n) m = drop_nil (suc n + m) ∙ sym (drop_nil m)
 drop_more {A} (x ∷ xs) (suc n) m = let e : suc n + m ≡ suc (n + m) = omega arith in rw e (drop_more xs n m)
 
-take_bytes : {A : Type 0} (xs : List (Load A)) (n m : ℕ)
+pub take_bytes : {A : Type 0} (xs : List (Load A)) (n m : ℕ)
     → (count_of (take m (drop n xs))).bytes + (count_of (drop (n + m) xs)).bytes ≡ (count_of (drop n xs)).bytes
 take_bytes {A} xs n m = rw (drop_more xs n m) (sum_by-take-drop (λ (load : Load A). load.wire) (drop n xs) m)
 
@@ -139,6 +139,19 @@ rising_enter flow total outstanding moved back wire credit h = record {
   packets = rises_from packets_told _ _ back _ h.packets (omega arith);
   bytes = rises_from bytes_told _ _ back _ h.bytes (omega arith);
 }
+
+pub started_enter : (flow : Flow) (start total outstanding : Count) (wire : ℕ) → Credited flow total outstanding
+    → Started start (minus total outstanding) → Started start (minus (plus total (one_of wire)) (plus outstanding (one_of wire)))
+started_enter flow start total outstanding wire credit h = omega arith
+
+pub started_hear : (start total outstanding moved : Count) (s : Told) (rest : List Told) → moved.packets ≤ total.packets → moved.bytes ≤ total.bytes
+    → Rising (minus total outstanding) moved (s ∷ rest) → Started start (minus total outstanding) → Started start (minus total (minus total s.told))
+started_hear start total outstanding moved s rest p b rising h =
+    let q = rises_le packets_told _ rest _ rising.packets.1 in
+    let c = rises_le bytes_told _ rest _ rising.bytes.1 in
+    let lp = rising.packets.0 in
+    let lb = rising.bytes.0 in
+    omega arith
 
 -- what was transferred never falls
 pub rising_move : (known moved more : Count) (back : List Told) → moved.packets ≤ more.packets → moved.bytes ≤ more.bytes

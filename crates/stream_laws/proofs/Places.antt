@@ -67,7 +67,7 @@ ordered_lose_command sent lost next before op told behind h = record {
   past = h.past;
 }
 
--- two numbers that are near each other are equal where their remainders are
+-- two numbers that are near each other are equal if their remainders are
 pub near : (place reached : ℕ) → reached ≤ place → place < reached + 65536 → place % 2 ^ 16 ≡ reached % 2 ^ 16 → place ≡ reached
 near place reached le few e = omega arith
 

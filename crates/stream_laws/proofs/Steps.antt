@@ -15,6 +15,7 @@ holds_opens terms = record {
   counted = omega arith;
   balanced = omega arith;
   credited = omega arith;
+  started = omega arith;
   rising = omega arith;
   ordered = record { stand = (omega arith, λ k a b. absurd (omega arith)); same = tt; past = λ k l. absurd l };
   received = omega arith;

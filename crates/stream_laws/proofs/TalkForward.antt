@@ -16,7 +16,7 @@ use Rattle.stream_laws.specs.Invariant.{dues}
 use Rattle.stream_laws.specs.Talk.{InHalted, InOpening, InResyncing, InRunning, traffic}
 use Rattle.stream_laws.proofs.Chains.{ends_none, ends_order, ends_without, flying_packets-append, orders-append, rises_to}
 
--- one entry is taken out: so many packets and so many commands
+-- one entry is taken out: the packets and the commands that are left
 pub record IsShorter {A : Type 0} (es rest : List (Entry A)) (packets commands : ℕ) : Type 0 where
   pub flight : (flying es).packets ≡ packets + (flying rest).packets
   pub fewer : orders es ≡ commands + orders rest

@@ -9,16 +9,16 @@ use Rattle.stream_laws.specs.Acts.{Act, Allowed, IsQuiet, after, Fill, Close, En
 
 -- all that the producer made was sent, and all of that is known to be transferred
 pub record IsDrained {A : Type 0} (st : State A) : Type 0 where
-  pub closed : st.closed ≡ true
-  pub none_ready : st.ready ≡ []
-  pub running : st.sender.state ≡ Running
-  pub covered : is_covered st.sender ≡ true
-  pub all_taken : st.taken ≡ length st.given
+  pub closed : st.core.closed ≡ true
+  pub none_ready : st.core.ready ≡ []
+  pub running : st.core.sender.state ≡ Running
+  pub covered : is_covered st.core.sender ≡ true
+  pub all_taken : st.core.taken ≡ length st.core.given
 
 -- A drained stream that lost no packet has given, and its consumer has taken, all that was sent.
 abbrev pub GivesAll : {A : Type 0} → Terms → State A → Type 0
-GivesAll terms st = IsDrained st → st.lost ≡ []
-    → (st.given ≡ st.sent) × (take st.taken st.given ≡ st.sent)
+GivesAll terms st = IsDrained st → st.core.lost ≡ []
+    → (st.core.given ≡ st.core.sent) × (take st.core.taken st.core.given ≡ st.core.sent)
 
 -- A drained stream stays drained, whatever happens.
 abbrev pub StaysDrained : {A : Type 0} → Terms → State A → Type 0
@@ -43,21 +43,21 @@ IsOwn (LosePacket before place load behind) = ⊥
 IsOwn (LoseCommand before op told behind) = ⊥
 IsOwn (LoseStatus before status behind) = ⊥
 
--- Where no act of its own is left, a stream is quiet.
+-- A stream of whose own acts none is allowed is quiet.
 abbrev pub IsQuietAtRest : {A : Type 0} → Terms → State A → Type 0
 IsQuietAtRest {A} terms st = ((act : Act A) → IsOwn act → Allowed terms st act → ⊥) → IsQuiet st
 
 -- a stream that a loss has halted, which its policy allows
 pub record IsHalted {A : Type 0} (terms : Terms) (st : State A) : Type 0 where
-  pub state : st.sender.state ≡ Halted
+  pub state : st.core.sender.state ≡ Halted
   pub off : terms.policy ≡ Off
-  pub some_lost : 1 ≤ length st.lost
+  pub some_lost : 1 ≤ length st.core.lost
 
 -- a stream that has nothing to send, and whose producer isn't finished
 pub record Waits {A : Type 0} (st : State A) : Type 0 where
-  pub running : st.sender.state ≡ Running
-  pub none_ready : st.ready ≡ []
-  pub goes_on : st.closed ≡ false
+  pub running : st.core.sender.state ≡ Running
+  pub none_ready : st.core.ready ≡ []
+  pub goes_on : st.core.closed ≡ false
 
 -- A quiet stream whose sender can do nothing is drained, or halted by a loss, or waits for its
 -- producer.

@@ -32,6 +32,11 @@ pub record Credited (flow : Flow) (total outstanding : Count) : Type 0 where
   pub sent_packets : outstanding.packets ≤ total.packets
   pub sent_bytes : outstanding.bytes ≤ total.bytes
 
+-- the known counts begin at the start, and none falls below it
+pub record Started (start known : Count) : Type 0 where
+  pub packets : start.packets ≤ known.packets
+  pub bytes : start.bytes ≤ known.bytes
+
 -- from the known counts over the statuses under way to the transferred ones no count falls
 pub record Rising (known transferred : Count) (back : List Told) : Type 0 where
   pub packets : Rises packets_told known.packets back transferred.packets
@@ -67,17 +72,17 @@ pub record Received {A : Type 0} (start reached next : ℕ) (given : List (Load 
   pub passed : reached ≤ start + next
   pub shape : HasShape start reached next lost broken
 
--- 1 where a status is due
+-- 1 if a status is due
 abbrev pub dues : Bool → ℕ
 dues true = 1
 dues false = 0
 
--- so many statuses under way tell a good receiver
+-- how many statuses under way tell a good receiver
 abbrev pub goods : List Told → ℕ
 goods [] = 0
 goods (s ∷ ss) = good_told s + goods ss
 
--- Of the epochs that have ended each was paid by a loss, and where another cut may come without one,
+-- Of the epochs that have ended each was paid by a loss, and if another cut may come without one,
 -- one more loss was there.
 pub record Paid (state : OutState) (missing : ℕ) (cuts : List Cut) (back : List Told) (due : Bool)
     (losses : ℕ) : Type 0 where

@@ -1,5 +1,7 @@
 pub mod Acts
+pub mod Bounds
 pub mod Chains
+pub mod Effects
 pub mod Ends
 pub mod Epochs
 pub mod Example
@@ -7,4 +9,5 @@ pub mod Invariant
 pub mod Laws
 pub mod Machine
 pub mod Potential
+pub mod Runs
 pub mod Talk

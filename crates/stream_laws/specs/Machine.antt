@@ -21,7 +21,7 @@ pub record Load (A : Type 0) : Type 0 where
   pub wire : ℕ
   pub item : A
 
--- so many packets, and the sum of their wire sizes
+-- the number of packets, and the sum of their wire sizes
 abbrev pub count_of : {A : Type 0} → List (Load A) → Count
 count_of loads = record { packets = length loads; bytes = sum_by (λ load. load.wire) loads }
 
@@ -31,49 +31,53 @@ pub data Entry (A : Type 0) : Type 0 where
   Data : ℕ → Load A → Entry A
   Command : CmdOp → Count → Entry A
 
-pub record State (A : Type 0) : Type 0 where
+-- a stream without what is under way: what a network keeps of it beside its queues
+pub record Core (A : Type 0) : Type 0 where
   -- what the producer has made and not sent
   pub ready : List (Load A)
   -- the producer makes no more
   pub closed : Bool
   pub sent : List (Load A)
   pub sender : Sender
-  -- what is under way to the consumer, the next to arrive first
-  pub forward : List (Entry A)
   pub receiver : Receiver
   -- all that the receiver kept, and how many of these the consumer has taken
   pub given : List (Load A)
   pub taken : ℕ
-  -- the statuses under way to the producer, the next to arrive first
-  pub back : List Told
   -- the epochs that have ended, the latest first
   pub cuts : List Cut
+  -- the places of the packets that were lost, and how many packets, commands and statuses were lost
+  pub lost : List ℕ
+  pub losses : ℕ
+
+-- The last two are history beyond what the machine needs to go on: the laws need them, and nothing that
+-- happens looks at them.
+pub record State (A : Type 0) : Type 0 where
+  pub core : Core A
+  -- what is under way to the consumer, the next to arrive first
+  pub forward : List (Entry A)
+  -- the statuses under way to the producer, the next to arrive first
+  pub back : List Told
   -- one past the place of the packet that arrived last
   pub next : ℕ
   -- what was lost or discarded in this epoch
   pub missing : Count
-  -- the places of the packets that were lost
-  pub lost : List ℕ
-  -- how many packets, commands and statuses were lost
-  pub losses : ℕ
 
-abbrev pub opens : {A : Type 0} → Terms → State A
-opens terms = record {
+abbrev pub opens_core : {A : Type 0} → Terms → Core A
+opens_core terms = record {
   ready = [];
   closed = false;
   sent = [];
   sender = opening terms.start;
-  forward = [];
   receiver = listening terms.flow terms.start;
   given = [];
   taken = 0;
-  back = [];
   cuts = [];
-  next = 0;
-  missing = none;
   lost = [];
   losses = 0;
 }
+
+abbrev pub opens : {A : Type 0} → Terms → State A
+opens terms = record { core = opens_core terms; forward = []; back = []; next = 0; missing = none }
 
 -- the number of the packet at a place of what was sent
 abbrev pub number_at : Terms → ℕ → ℕ

@@ -23,7 +23,7 @@ phase_by Halted missing covered = 0
 phase_by Resyncing zero covered = 2
 phase_by Resyncing (suc missing) covered = 3
 
--- what is under way of the last command or its answer: 0 where nothing is
+-- what is under way of the last command or its answer: 0 if nothing is
 abbrev pub asked_by : OutState → ℕ → Bool → ℕ → ℕ → ℕ → ℕ
 asked_by Opening missing pinging traffic orders answers = traffic
 asked_by Running missing true traffic orders answers = traffic
@@ -32,20 +32,20 @@ asked_by Halted missing pinging traffic orders answers = 0
 asked_by Resyncing zero pinging traffic orders answers = orders + answers
 asked_by Resyncing (suc missing) pinging traffic orders answers = orders
 
--- 1 where nothing is under way
+-- 1 if nothing is under way
 abbrev pub unasked : ℕ → ℕ
 unasked zero = 1
 unasked (suc n) = 0
 
 abbrev pub phase : {A : Type 0} → State A → ℕ
-phase st = phase_by st.sender.state st.missing.packets (is_covered st.sender)
+phase st = phase_by st.core.sender.state st.missing.packets (is_covered st.core.sender)
 
 abbrev pub asked : {A : Type 0} → State A → ℕ
-asked st = asked_by st.sender.state st.missing.packets st.sender.pinging
-    (traffic st.forward (is_due st.receiver) st.back)
-    (orders st.forward) (goods st.back + dues (is_due st.receiver))
+asked st = asked_by st.core.sender.state st.missing.packets st.core.sender.pinging
+    (traffic st.forward (is_due st.core.receiver) st.back)
+    (orders st.forward) (goods st.back + dues (is_due st.core.receiver))
 
--- twice the phase, and one more where no command is under way
+-- twice the phase, and one more if no command is under way
 abbrev pub potential : {A : Type 0} → State A → ℕ
 potential st = 2 * phase st + unasked (asked st)
 

@@ -17,7 +17,7 @@ use Rattle.stream_laws.specs.Machine.{Entry, Load, State, Terms, Told}
 use Rattle.stream_laws.specs.Acts.{IsStuck}
 use Rattle.stream_laws.specs.Chains.{EndsWith, Rises, bad_told, badness, bytes_told, flying, good_told, goodness, orders, packets_told}
 use Rattle.stream_laws.specs.Epochs.{EachEpoch, IsEpoch, begun, reach}
-use Rattle.stream_laws.specs.Invariant.{Balanced, Counted, Credited, Ordered, Paid, Received, Rising, Unhurt, dues}
+use Rattle.stream_laws.specs.Invariant.{Balanced, Counted, Credited, Ordered, Paid, Received, Rising, Started, Unhurt, dues}
 
 -- commands under way, a status due, and statuses under way
 abbrev pub traffic : {A : Type 0} → List (Entry A) → Bool → List Told → ℕ
@@ -91,28 +91,29 @@ pub record InResyncing {A : Type 0} (policy : Policy) (total held : Count) (forw
   pub behind : missing ≡ 0 → IsBehind held.packets forward back due broken commanded
 
 abbrev pub Talk : {A : Type 0} → Terms → OutState → State A → Type 0
-Talk terms Opening st = InOpening terms.flow st.sent st.given st.forward st.back (is_due st.receiver)
-    st.receiver.broken st.missing.packets st.sender.commanded
-Talk terms Running st = InRunning terms.flow st.sender.outstanding
-    (transferred st.receiver) st.receiver.buffered st.closed st.ready
-    st.forward st.back (is_due st.receiver) st.receiver.broken st.missing.packets st.sender.pinging
+Talk terms Opening st = InOpening terms.flow st.core.sent st.core.given st.forward st.back (is_due st.core.receiver)
+    st.core.receiver.broken st.missing.packets st.core.sender.commanded
+Talk terms Running st = InRunning terms.flow st.core.sender.outstanding
+    (transferred st.core.receiver) st.core.receiver.buffered st.core.closed st.core.ready
+    st.forward st.back (is_due st.core.receiver) st.core.receiver.broken st.missing.packets st.core.sender.pinging
 Talk terms Halted st = InHalted terms.policy st.forward st.missing.packets
-Talk terms Resyncing st = InResyncing terms.policy st.sender.sent st.receiver.buffered st.forward
-    st.back (is_due st.receiver)
-    st.receiver.broken st.missing.packets st.sender.pinging st.sender.commanded
+Talk terms Resyncing st = InResyncing terms.policy st.core.sender.sent st.core.receiver.buffered st.forward
+    st.back (is_due st.core.receiver)
+    st.core.receiver.broken st.missing.packets st.core.sender.pinging st.core.sender.commanded
 
 -- the whole invariant of a stream
 pub record Holds {A : Type 0} (terms : Terms) (st : State A) : Type 0 where
-  pub small : AllByRecursion (λ load. load.wire ≤ terms.flow.cap_bytes) st.ready
-  pub counted : Counted terms.start st.sent st.given st.taken st.sender.sent st.receiver.buffered
-  pub balanced : Balanced st.sender.sent st.receiver.reached st.receiver.buffered
+  pub small : AllByRecursion (λ load. load.wire ≤ terms.flow.cap_bytes) st.core.ready
+  pub counted : Counted terms.start st.core.sent st.core.given st.core.taken st.core.sender.sent st.core.receiver.buffered
+  pub balanced : Balanced st.core.sender.sent st.core.receiver.reached st.core.receiver.buffered
       (flying st.forward) st.missing
-  pub credited : Credited terms.flow st.sender.sent st.sender.outstanding
-  pub rising : Rising (known st.sender) (transferred st.receiver) st.back
-  pub ordered : Ordered st.sent st.lost st.next st.forward
-  pub received : Received terms.start.packets st.receiver.reached.packets st.next st.given st.lost
-      (begun st.cuts) st.receiver.broken
-  pub epochs : EachEpoch (IsEpoch st.sent st.given st.lost) st.cuts (reach st.sent st.given)
-  pub paid : Paid st.sender.state st.missing.packets st.cuts st.back (is_due st.receiver) st.losses
-  pub unhurt : Unhurt st.sender.state st.missing.packets st.cuts st.lost
-  pub talk : Talk terms st.sender.state st
+  pub credited : Credited terms.flow st.core.sender.sent st.core.sender.outstanding
+  pub started : Started terms.start (known st.core.sender)
+  pub rising : Rising (known st.core.sender) (transferred st.core.receiver) st.back
+  pub ordered : Ordered st.core.sent st.core.lost st.next st.forward
+  pub received : Received terms.start.packets st.core.receiver.reached.packets st.next st.core.given st.core.lost
+      (begun st.core.cuts) st.core.receiver.broken
+  pub epochs : EachEpoch (IsEpoch st.core.sent st.core.given st.core.lost) st.core.cuts (reach st.core.sent st.core.given)
+  pub paid : Paid st.core.sender.state st.missing.packets st.core.cuts st.back (is_due st.core.receiver) st.core.losses
+  pub unhurt : Unhurt st.core.sender.state st.missing.packets st.core.cuts st.core.lost
+  pub talk : Talk terms st.core.sender.state st

@@ -5,13 +5,14 @@
 //! is what a packet is beside its wire size.
 #![tactic(auto)]
 
-mod ends;
-mod laws;
+mod law;
 
-pub use ends::{commands_end, drained_gives_all, drained_stays, rest_is_an_end, rest_is_quiet};
-pub use laws::{
-    a_loss_is_mended, broken_by_loss, credit, epochs_are_few, given_begins_sent, invariant,
-    nothing_after_a_gap, room, runs_join, spellings_tell, taken_of_given,
+pub use law::{
+    a_loss_can_halt, a_loss_is_mended, commands_end, credit_is_never_passed, drained_gives_all,
+    drained_stays, epochs_are_few, given_begins_sent, nothing_is_given_after_a_gap,
+    only_a_loss_breaks, rest_is_an_end, rest_is_quiet, runs_join, spellings_tell,
+    taken_begins_given, tests_tell_their_conditions, the_invariant_holds, what_is_kept_finds_room,
+    what_was_made_is_sent_in_order,
 };
 
 #[cfg(test)]

@@ -1,5 +1,6 @@
-use Rattle.stream_laws.proofs.laws.a_loss_is_mended.Goals as goal
-use Rattle.stream_laws.proofs.Worked.{from_zero, near_the_end}
+-- The law, clause by clause.
+use Rattle.stream_laws.proofs.law.a_loss_is_mended.Goals as goal
+use Rattle.stream_laws.proofs.Laws.{near_the_end}
 
 pub returns : goal.returns
-returns c = record { first = from_zero; wraps = near_the_end }
+returns c = record { law = near_the_end }
