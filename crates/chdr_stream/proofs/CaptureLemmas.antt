@@ -1,38 +1,34 @@
 -- What is shown of bytes: the packets of their longest front that is a capture, and the first fault behind it.
-use Rattle.std.proofs.Common.{Bool, true, false, ◌≡◌, ℕ, zero, suc, ◌+◌, ◌<◌, ◌≤◌, List, [], ◌∷◌, ◌++◌, length, take, drop, Option, None, Some, Result, Ok, Err, refl, sym, ap, subst, ◌∙◌, append_assoc, arith}
+use Rattle.std.proofs.Common.{◌^◌, Bool, true, false, ◌≡◌, ℕ, zero, suc, ◌+◌, ◌<◌, ◌≤◌, List, [], ◌∷◌, ◌++◌, length, take, drop, Option, None, Some, Result, Ok, Err, refl, sym, ap, subst, ◌∙◌, append_assoc, arith}
 use Rattle.std.specs.Prelude.{IsTrue}
-use Rattle.std.proofs.Math.Seq.{take-add, drop-append_seam}
-use Rattle.std.proofs.lemmas.List.{append-nil, length-drop, drop-drop, length-take-le, length-append, take-append-drop}
-use Rattle.chdr_words.specs.Laws.{IsBytes}
-use Rattle.chdr_words.proofs.Laws.{small_take}
-use Rattle.chdr_packets.specs.Grammar.{Spells, is_plain}
+use Rattle.std.proofs.Math.Seq.{take-add, take-append_seam, drop-append_seam}
+use Rattle.std.proofs.lemmas.List.{append-nil, length-drop, drop-drop, length-take-le, length-append}
+use Rattle.std.proofs.lemmas.List.Elements.{All-drop, All-take}
+use Rattle.chdr_packets.specs.Grammar.{is_plain}
 use Rattle.chdr_packets.specs.Reading.{packet_read}
 use Rattle.chdr_packets.specs.declared.fault.PacketFault.{PacketFault}
 use Rattle.chdr_packets.specs.declared.packet.Packet.{Packet}
-use Rattle.chdr_packets.proofs.GrammarLemmas.{read_spells, spells_read}
-use Rattle.chdr_packets.proofs.PacketLemmas.{found, read-take, plain_more}
+use Rattle.chdr_packets.specs.Laws.{IsBytes}
+use Rattle.chdr_packets.proofs.Laws.{read_within, read_spelled, read_marked, read_stands, reads_back}
 use Rattle.chdr_stream.specs.declared.placed.Placed.{Placed}
 use Rattle.chdr_stream.specs.Capture.{IsCaptureOf, Reason, bad, truncated, Capture, behind, capture_from}
 use Rattle.chdr_stream.specs.Places.{packets_of, IsPlaced, ArePlaced}
 use Rattle.chdr_stream.proofs.ReasonLemmas.{Finds}
-use Rattle.chdr_stream.proofs.StreamLemmas.{capture-part, capture-bad, capture-cut, marked, with_items}
+use Rattle.chdr_stream.proofs.StreamLemmas.{found, capture-part, capture-bad, capture-cut, marked, with_items}
 
 -- ---- bytes
 
-pub front_bytes : (x y : List ℕ) → IsBytes (x ++ y) → IsBytes x
-front_bytes [] y small i = omega arith
-front_bytes (a ∷ x) y small zero = small 0
-front_bytes (a ∷ x) y small (suc i) = front_bytes x y (λ j. small (suc j)) i
-
-pub back_bytes : (x y : List ℕ) → IsBytes (x ++ y) → IsBytes y
-back_bytes [] y small = small
-back_bytes (a ∷ x) y small = back_bytes x y (λ i. small (suc i))
-
 pub take_bytes : (n : ℕ) (b : List ℕ) → IsBytes b → IsBytes (take n b)
-take_bytes n b small i = small_take n b i small
+take_bytes n b all = All-take (λ (byte : ℕ). byte < 2 ^ 8) n b all
 
 pub drop_bytes : (n : ℕ) (b : List ℕ) → IsBytes b → IsBytes (drop n b)
-drop_bytes n b small = back_bytes (take n b) (drop n b) (subst IsBytes (sym (take-append-drop n b)) small)
+drop_bytes n b all = All-drop (λ (byte : ℕ). byte < 2 ^ 8) n b all
+
+pub front_bytes : (x y : List ℕ) → IsBytes (x ++ y) → IsBytes x
+front_bytes x y all = subst IsBytes (take-append_seam x y) (take_bytes (length x) (x ++ y) all)
+
+pub back_bytes : (x y : List ℕ) → IsBytes (x ++ y) → IsBytes y
+back_bytes x y all = subst IsBytes (drop-append_seam x y) (drop_bytes (length x) (x ++ y) all)
 
 -- ---- a capture is read packet by packet
 
@@ -54,10 +50,9 @@ placed_shown at [] x y small none =
     ap (λ (b : List ℕ). capture_from 0 at (b ++ y)) none ∙ ap (λ (k : ℕ). capture_from 0 k y) (sym here)
 placed_shown at (item ∷ items) x y small (front, rest, split, one, others) =
     let bytes : IsBytes (front ++ rest) = subst IsBytes split small in
-    let small_front : IsBytes front = front_bytes front rest bytes in
-    let read = spells_read front (rest ++ y) item.packet small_front one.spells in
-    let alone : packet_read front ≡ found item.packet (length front) = ap packet_read (sym (append-nil front)) ∙ spells_read front [] item.packet small_front one.spells in
-    let plain : is_plain (front ++ (rest ++ y)) ≡ is_plain front = plain_more front (rest ++ y) item.packet (length front) alone in
+    let read = reads_back item.packet front (rest ++ y) one.spells in
+    let alone : packet_read front ≡ found item.packet (length front) = ap packet_read (sym (append-nil front)) ∙ reads_back item.packet front [] one.spells in
+    let plain : is_plain (front ++ (rest ++ y)) ≡ is_plain front = (read_stands front (rest ++ y) item.packet (length front) alone).1 in
     let whole : x ++ y ≡ front ++ (rest ++ y) = ap (λ (b : List ℕ). b ++ y) split ∙ append_assoc front rest y in
     let len : at + length front + length rest ≡ at + length x = omega (arith, ap length split, length-append front rest) in
     ap (capture_from 0 at) whole
@@ -111,16 +106,12 @@ stops_behind (Some fault) at n size b le stops = (omega (arith, stops.0), subst 
 
 -- the packet that is read stands at its place
 pub one_placed : (at : ℕ) (b : List ℕ) (p : Packet) (n : ℕ) → IsBytes b → packet_read b ≡ found p n → IsPlaced at (marked at (is_plain b) p) (take n b)
-one_placed at b p n small e =
-    let front : List ℕ = take n b in
-    let spells : Spells p front = read_spells b p n small e in
-    let plain : is_plain b ≡ is_plain front = ap is_plain (sym (take-append-drop n b)) ∙ plain_more front (drop n b) p n (read-take b p n e).2 in
-    record { place = refl; spells = spells; canonical = (λ v. record { spells = spells; plain = subst IsTrue plain v }, λ canon. subst IsTrue (sym plain) canon.plain) }
+one_placed at b p n small e = record { place = refl; spells = (read_spelled b p n small e).0; canonical = read_marked b p n small e }
 
 shows_part : (at : ℕ) (b : List ℕ) (p : Packet) (n : ℕ) → IsBytes b → packet_read b ≡ found p n → Shows (at + n) (drop n b) (capture_from 0 (at + n) (drop n b))
     → Shows at b (behind (marked at (is_plain b) p ∷ []) (capture_from 0 (at + n) (drop n b)))
 shows_part at b p n small e s =
-    let t = read-take b p n e in
+    let t = read_within b p n e in
     let len : length (take n b) ≡ n = length-take-le n b t.0 in
     let items : List Placed = (capture_from 0 (at + n) (drop n b)).items in
     record {
@@ -140,7 +131,7 @@ shows (suc most) at (x ∷ b) le small = cases (λ k c less small. shows most k 
         let some : 0 < length (x ∷ b) = omega arith in
         subst (Shows at (x ∷ b)) (sym (capture-cut at (x ∷ b) is some)) (shows_fault at (x ∷ b) truncated (is, some))
     cases more (Ok (Some (p, n))) is =
-        let t = read-take (x ∷ b) p n is in
+        let t = read_within (x ∷ b) p n is in
         let less : length (drop n (x ∷ b)) ≤ most = omega (arith, length-drop n (x ∷ b), t.0, t.1) in
         subst (Shows at (x ∷ b)) (sym (capture-part at (x ∷ b) p n is))
         (shows_part at (x ∷ b) p n small is (more (at + n) (drop n (x ∷ b)) less (drop_bytes n (x ∷ b) small)))

@@ -1,18 +1,15 @@
 -- The fault shown of bytes is the first fault, by the captures among their fronts.
 use Rattle.std.proofs.Common.{◌≡◌, ℕ, ◌+◌, ◌≤◌, ◌⊎◌, inl, inr, List, [], ◌++◌, length, take, drop, Option, None, Some, Result, Ok, Err, refl, sym, ap, subst, ◌∙◌, arith}
 use Rattle.std.proofs.lemmas.List.{append-nil, nil_from_length, length-drop, length-take-le, take-append-drop, take_all}
-use Rattle.chdr_words.specs.Laws.{IsBytes}
 use Rattle.chdr_packets.specs.Reading.{packet_read}
 use Rattle.chdr_packets.specs.declared.fault.PacketFault.{PacketFault}
 use Rattle.chdr_packets.specs.declared.packet.Packet.{Packet}
-use Rattle.chdr_packets.proofs.PacketLemmas.{nothing_read}
 use Rattle.chdr_stream.specs.Capture.{IsCaptureOf, Reason, bad, truncated, Capture, behind, capture_from, capture_of}
 use Rattle.chdr_stream.specs.FirstFault.{IsLongestFront, IsFirstFault}
 use Rattle.chdr_stream.specs.Places.{packets_of, ArePlaced}
 use Rattle.chdr_stream.specs.Laws.{shown, end_of, ShowsCaptures, ShowsOnly, ShowsFirstFault, ShowsLongest, ShowsPlaces, IsWholeOrFaulty, HasNone, HasOne}
-use Rattle.chdr_stream.proofs.StreamLemmas.{with_items}
-use Rattle.chdr_packets.specs.Laws.{IsBytes as AllBytes}
-use Rattle.chdr_packets.proofs.LawLemmas.{small_bytes}
+use Rattle.chdr_stream.proofs.StreamLemmas.{nothing_read, with_items}
+use Rattle.chdr_packets.specs.Laws.{IsBytes}
 use Rattle.chdr_stream.proofs.ReasonLemmas.{Finds, finds_fails, fails_finds}
 use Rattle.chdr_stream.proofs.CaptureLemmas.{take_bytes, drop_bytes, places_of, placed_capture, placed_shown, StopsBy, Shows, shows_bytes}
 
@@ -37,11 +34,11 @@ size_is (Some fault) size b stops = omega (arith, stops.0)
 
 pub shows_places : ShowsPlaces
 shows_places b all =
-    let s = shows_bytes 0 b (small_bytes b all) in
+    let s = shows_bytes 0 b all in
     subst (λ (n : ℕ). ArePlaced 0 (capture_of b).items (take n b)) (sym (size_is (capture_of b).fault s.size b s.stops)) s.placed
 
 pub shows_captures : ShowsCaptures
-shows_captures b all = (λ none. whole none, λ capture. (whole_shown b (shown b) (small_bytes b all) capture).1)
+shows_captures b all = (λ none. whole none, λ capture. (whole_shown b (shown b) all capture).1)
   where
     whole : (capture_of b).fault ≡ None → IsCaptureOf (shown b) b
     whole none =
@@ -50,7 +47,7 @@ shows_captures b all = (λ none. whole none, λ capture. (whole_shown b (shown b
         placed_capture 0 (capture_of b).items b (subst (ArePlaced 0 (capture_of b).items) (ap (λ (n : ℕ). take n b) end ∙ take_all (length b) b (omega arith)) places)
 
 pub shows_only : ShowsOnly
-shows_only b packets all capture = (whole_shown b packets (small_bytes b all) capture).0
+shows_only b packets all capture = (whole_shown b packets all capture).0
 
 -- ---- the longest front
 
@@ -81,17 +78,17 @@ longest_shown b s small = record {
 
 pub shows_longest : ShowsLongest
 shows_longest b at reason all e =
-    let s = shows_bytes 0 b (small_bytes b all) in
+    let s = shows_bytes 0 b all in
     let stops : StopsBy (Some (at, reason)) 0 s.size b = subst (λ (f : Option (ℕ × Reason)). StopsBy f 0 s.size b) e s.stops in
     let place : s.size ≡ at = omega (arith, stops.0) in
-    subst (IsLongestFront b (shown b)) place (longest_shown b s (small_bytes b all))
+    subst (IsLongestFront b (shown b)) place (longest_shown b s all)
 
-pub first_shown : (b : List ℕ) (at : ℕ) (reason : Reason) → AllBytes b → (capture_of b).fault ≡ Some (at, reason) → IsFirstFault b at reason
+pub first_shown : (b : List ℕ) (at : ℕ) (reason : Reason) → IsBytes b → (capture_of b).fault ≡ Some (at, reason) → IsFirstFault b at reason
 first_shown b at reason all e =
-    let s = shows_bytes 0 b (small_bytes b all) in
+    let s = shows_bytes 0 b all in
     let stops : StopsBy (Some (at, reason)) 0 s.size b = subst (λ (f : Option (ℕ × Reason)). StopsBy f 0 s.size b) e s.stops in
     let place : s.size ≡ at = omega (arith, stops.0) in
-    record { packets = shown b; longest = shows_longest b at reason all e; fails = finds_fails reason (drop at b) (drop_bytes at b (small_bytes b all)) (subst (λ (n : ℕ). Finds reason (drop n b)) place stops.1) }
+    record { packets = shown b; longest = shows_longest b at reason all e; fails = finds_fails reason (drop at b) (drop_bytes at b all) (subst (λ (n : ℕ). Finds reason (drop n b)) place stops.1) }
 
 -- bytes fail by one reason alone, and no bytes by none
 fails_once : (r q : Reason) (b : List ℕ) → Finds r b → Finds q b → r ≡ q
@@ -128,7 +125,7 @@ shown_first b at reason small first =
     fault_is (capture_of b).fault at reason b first.longest.within (subst (λ (n : ℕ). StopsBy (capture_of b).fault 0 n b) place s.stops) (fails_finds reason (drop at b) (drop_bytes at b small) first.fails)
 
 pub shows_first_fault : ShowsFirstFault
-shows_first_fault b at reason all = (first_shown b at reason all, shown_first b at reason (small_bytes b all))
+shows_first_fault b at reason all = (first_shown b at reason all, shown_first b at reason all)
 
 -- ---- whether there is one
 
@@ -145,10 +142,10 @@ same_place a b r q e =
     (ap (λ (x : ℕ × Reason). x.0) pair, ap (λ (x : ℕ × Reason). x.1) pair)
 
 pub has_none : HasNone
-has_none b packets at reason all capture first = apart (sym (whole_shown b packets (small_bytes b all) capture).1 ∙ shown_first b at reason (small_bytes b all) first)
+has_none b packets at reason all capture first = apart (sym (whole_shown b packets all capture).1 ∙ shown_first b at reason all first)
   where
     apart : ◌≡◌ {A = Option (ℕ × Reason)} None (Some (at, reason)) → ⊥
     apart e = cc
 
 pub has_one : HasOne
-has_one b at place reason other all x y = same_place at place reason other (sym (shown_first b at reason (small_bytes b all) x) ∙ shown_first b place other (small_bytes b all) y)
+has_one b at place reason other all x y = same_place at place reason other (sym (shown_first b at reason all x) ∙ shown_first b place other all y)

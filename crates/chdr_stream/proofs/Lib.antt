@@ -5,3 +5,4 @@ pub mod FaultLemmas
 pub mod CutLemmas
 pub mod SameLemmas
 pub mod RestLemmas
+pub mod Laws

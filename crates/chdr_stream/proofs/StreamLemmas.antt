@@ -1,13 +1,25 @@
 -- The packets of pieces are those of the whole.
-use Rattle.std.proofs.Common.{Bool, ◌≡◌, ℕ, zero, suc, ◌+◌, ◌-◌, ◌<◌, ◌≤◌, List, [], ◌∷◌, ◌++◌, length, drop, Option, None, Some, Result, Ok, Err, refl, sym, ap, ◌∙◌, append_assoc, arith}
+use Rattle.std.proofs.Common.{inl, Bool, ◌≡◌, ℕ, zero, suc, ◌+◌, ◌-◌, ◌<◌, ◌≤◌, List, [], ◌∷◌, ◌++◌, length, drop, Option, None, Some, Result, Ok, Err, refl, sym, ap, ◌∙◌, append_assoc, arith}
 use Rattle.std.proofs.lemmas.List.{append-nil, nil_from_length, length-drop, length-append, drop-append-le}
 use Rattle.chdr_packets.specs.Grammar.{is_plain}
 use Rattle.chdr_packets.specs.Reading.{packet_read}
 use Rattle.chdr_packets.specs.declared.fault.PacketFault.{PacketFault}
 use Rattle.chdr_packets.specs.declared.packet.Packet.{Packet}
-use Rattle.chdr_packets.proofs.PacketLemmas.{found, read-take, read_more, plain_more, fails_more, nothing_read}
+use Rattle.chdr_packets.proofs.Laws.{read_within, read_stands, fault_stands, none_exactly}
 use Rattle.chdr_stream.specs.declared.placed.Placed.{Placed}
 use Rattle.chdr_stream.specs.Capture.{Reason, bad, truncated, Capture, behind, part_at, capture_from, capture_of, Decoded}
+
+abbrev pub found : Packet → ℕ → Result (Option (Packet × ℕ)) PacketFault
+found p n = Ok (Some (p, n))
+
+-- of no bytes nothing is read
+pub nothing_read : (fault : PacketFault) → packet_read [] ≡ Err fault → ⊥
+nothing_read fault e =
+    let none : packet_read [] ≡ Ok None = (none_exactly []).1 (inl (omega arith)) in
+    apart (sym none ∙ e)
+  where
+    apart : ◌≡◌ {A = Result (Option (Packet × ℕ)) PacketFault} (Ok None) (Err fault) → ⊥
+    apart e = cc
 
 abbrev pub with_items : List Placed → Option (ℕ × Reason) → Capture
 with_items items fault = record { items = items; fault = fault }
@@ -26,10 +38,10 @@ capture-skip (suc skip) at (x ∷ b) le =
 pub capture-part : (at : ℕ) (b : List ℕ) (p : Packet) (n : ℕ) → packet_read b ≡ found p n
     → capture_from 0 at b ≡ behind (record { at = at; canonical = is_plain b; packet = p } ∷ []) (capture_from 0 (at + n) (drop n b))
 unfolding capture_from
-capture-part at [] p n e = let t = read-take [] p n e in absurd (omega (arith, t.0, t.1))
-capture-part at (x ∷ b) p zero e = let t = read-take (x ∷ b) p zero e in absurd (omega (arith, t.1))
+capture-part at [] p n e = let t = read_within [] p n e in absurd (omega (arith, t.0, t.1))
+capture-part at (x ∷ b) p zero e = let t = read_within (x ∷ b) p zero e in absurd (omega (arith, t.1))
 capture-part at (x ∷ b) p (suc n) e =
-    let t = read-take (x ∷ b) p (suc n) e in
+    let t = read_within (x ∷ b) p (suc n) e in
     let le : n ≤ length b = omega (arith, t.0) in
     let at_is : at + 1 + n ≡ at + suc n = omega arith in
     let n_is : suc n - 1 ≡ n = omega arith in
@@ -72,12 +84,12 @@ decoded_fed fed done at kept piece d = record {
 pub decoded_next : (fed : List ℕ) (done : List Placed) (at : ℕ) (kept : List ℕ) (p : Packet) (n : ℕ) → packet_read kept ≡ found p n → Decoded fed done at kept
     → Decoded fed (done ++ placed at kept p ∷ []) (at + n) (drop n kept)
 decoded_next fed done at kept p n e d =
-    let t = read-take kept p n e in
+    let t = read_within kept p n e in
     record {
       place = omega (arith, d.place, length-drop n kept, t.0);
       goes_on = λ more.
-          let whole = read_more kept more p n e in
-          let same : is_plain (kept ++ more) ≡ is_plain kept = plain_more kept more p n e in
+          let whole = (read_stands kept more p n e).0 in
+          let same : is_plain (kept ++ more) ≡ is_plain kept = (read_stands kept more p n e).1 in
           d.goes_on more ∙ ap (behind done) (capture-part at (kept ++ more) p n whole)
           ∙ ap (λ (x : Placed). behind done (behind (x ∷ []) (capture_from 0 (at + n) (drop n (kept ++ more))))) (ap (λ (c : Bool). marked at c p) same)
           ∙ behind-behind done (placed at kept p ∷ []) (capture_from 0 (at + n) (drop n (kept ++ more)))
@@ -87,7 +99,7 @@ decoded_next fed done at kept p n e d =
 pub decoded_bad : (fed : List ℕ) (done : List Placed) (at : ℕ) (kept more : List ℕ) (fault : PacketFault) → packet_read kept ≡ Err fault → Decoded fed done at kept
     → capture_of (fed ++ more) ≡ with_items done (Some (at, bad fault))
 decoded_bad fed done at kept more fault e d =
-    d.goes_on more ∙ ap (behind done) (capture-bad at (kept ++ more) fault (fails_more kept more fault e)) ∙ ap (λ (items : List Placed). with_items items (Some (at, bad fault))) (append-nil done)
+    d.goes_on more ∙ ap (behind done) (capture-bad at (kept ++ more) fault (fault_stands kept more fault e)) ∙ ap (λ (items : List Placed). with_items items (Some (at, bad fault))) (append-nil done)
 
 pub decoded_cut : (fed : List ℕ) (done : List Placed) (at : ℕ) (kept : List ℕ) → packet_read kept ≡ Ok None → 0 < length kept → Decoded fed done at kept
     → capture_of fed ≡ with_items done (Some (at, truncated))

@@ -8,23 +8,23 @@ use Rattle.chdr_stream.specs.Capture.{Reason, bad, truncated}
 use Rattle.chdr_stream.specs.Stream.{Stream, fed_with, reading, answer_at, after}
 use Rattle.chdr_stream.specs.Places.{ArePlaced}
 
--- bytes are fed; the next packet is asked for, or only passed; or a call wanted memory
+-- bytes are fed; the next packet is asked for, or only passed; or a call ran out of memory
 pub data Call : Type 0 where
   feeds : List ℕ → Call
   asks : Call
-  wants : Call
+  fails : Call
 
 -- a new decoder
 abbrev pub opened : Stream
-opened = record { at = 0; kept = []; fault = None }
+opened = record { at = 0; kept = []; fault = None; held = 0 }
 
 -- what a call leaves, by the words of its clauses
 abbrev pub with_call : Stream → Call → Stream
 with_call s (feeds piece) = fed_with s piece
 with_call s asks = after s (reading s)
-with_call s wants = s
+with_call s fails = s
 
--- what a decoder answers to `next` where memory suffices
+-- what a decoder returns from `next` if memory suffices
 abbrev pub answer_of : Stream → Result (Option Placed) StreamFault
 answer_of s = answer_at s (reading s)
 
@@ -38,13 +38,13 @@ given (Err fault) = []
 abbrev pub given_with : Stream → Call → List Placed
 given_with s (feeds piece) = []
 given_with s asks = given (answer_of s)
-given_with s wants = []
+given_with s fails = []
 
 -- the bytes that a call feeds
 abbrev pub fed_with_call : Call → List ℕ
 fed_with_call (feeds piece) = piece
 fed_with_call asks = []
-fed_with_call wants = []
+fed_with_call fails = []
 
 -- what calls leave
 abbrev pub with_calls : Stream → List Call → Stream

@@ -1,3 +1,4 @@
+pub mod Window
 pub mod Capture
 pub mod Stream
 pub mod FirstFault

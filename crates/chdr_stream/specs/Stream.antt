@@ -1,4 +1,4 @@
--- A decoder: its place, the bytes that it keeps, and the fault that it stands at.
+-- A decoder: its place, the bytes that it keeps and holds, and the fault that it stands at.
 use Rattle.std.specs.Prelude.{◌≡◌, ℕ, ◌+◌, ◌==◌, if◌then◌else◌, List, ◌++◌, drop, length, Option, None, Some, Result, Ok, Err}
 use Rattle.chdr_packets.specs.Grammar.{is_plain}
 use Rattle.chdr_packets.specs.Reading.{packet_read}
@@ -11,18 +11,24 @@ use Rattle.chdr_stream.specs.declared.placed.FinishFault.TheVariants.{Truncated}
 use Rattle.chdr_stream.specs.declared.placed.StreamFault.{StreamFault}
 use Rattle.chdr_stream.specs.declared.placed.StreamFault.TheVariants.{Bad, Memory}
 
+-- `held` counts the bytes kept, and those passed that still take memory
 pub record Stream : Type 0 where
   pub at : ℕ
   pub kept : List ℕ
   pub fault : Option PacketFault
+  pub held : ℕ
 
 -- more bytes are kept; behind a fault none
 abbrev pub fed_with : Stream → List ℕ → Stream
-fed_with s piece = record s { kept = kept_with s.fault s.kept piece }
+fed_with s piece = record s { kept = kept_with s.fault s.kept piece; held = held_with s.fault s.held piece }
   where
     kept_with : Option PacketFault → List ℕ → List ℕ → List ℕ
     kept_with None kept piece = kept ++ piece
     kept_with (Some fault) kept piece = kept
+
+    held_with : Option PacketFault → ℕ → List ℕ → ℕ
+    held_with None held piece = held + length piece
+    held_with (Some fault) held piece = held
 
 -- what is found at the front of the bytes kept, unless it stands at a fault
 abbrev pub reading : Stream → Result (Option (Packet × ℕ)) PacketFault
@@ -52,9 +58,13 @@ past s size = record s { at = s.at + size; kept = drop size s.kept }
 abbrev pub stopped : Stream → PacketFault → Stream
 stopped s fault = record s { fault = Some fault }
 
--- the state behind what is found
+-- bytes that were passed are let go
+abbrev pub released : Stream → Stream
+released s = record s { held = length s.kept }
+
+-- the state behind what is found; if nothing is, only the bytes kept are held
 abbrev pub after : Stream → Result (Option (Packet × ℕ)) PacketFault → Stream
-after s (Ok None) = s
+after s (Ok None) = released s
 after s (Ok (Some found)) = past s found.1
 after s (Err fault) = stopped s fault
 

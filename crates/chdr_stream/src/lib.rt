@@ -8,6 +8,7 @@
 mod decoder;
 mod law;
 mod placed;
+mod window;
 
 pub use decoder::Decoder;
 pub use law::{
@@ -16,6 +17,7 @@ pub use law::{
     the_fault_is_the_first,
 };
 pub use placed::{FinishFault, Passed, Placed, StreamFault};
+pub use window::Window;
 
 #[cfg(test)]
 mod tests;

@@ -1,4 +1,4 @@
-use Rattle.chdr_stream.proofs.RestLemmas.{shows_all, shows_fed, shows_given, shows_fault, shows_cut, passes_bytes}
+use Rattle.chdr_stream.proofs.Laws.{shows_all, shows_fed, shows_given, shows_fault, shows_cut, passes_bytes}
 use Rattle.chdr_stream.proofs.law.a_decoder_shows_what_follows.Goals as goal
 
 pub returns : goal.returns

@@ -1,4 +1,4 @@
-use Rattle.chdr_stream.proofs.CutLemmas.{names_fault, names_cut, ends_whole, stays_at_fault}
+use Rattle.chdr_stream.proofs.Laws.{names_fault, names_cut, ends_whole, stays_at_fault}
 use Rattle.chdr_stream.proofs.law.a_stream_stops_at_the_first_fault.Goals as goal
 
 pub returns : goal.returns

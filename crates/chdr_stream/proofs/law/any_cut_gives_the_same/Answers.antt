@@ -1,5 +1,4 @@
-use Rattle.chdr_stream.proofs.CutLemmas.{keeps_rest, any_cut}
-use Rattle.chdr_stream.proofs.SameLemmas.{same_cut}
+use Rattle.chdr_stream.proofs.Laws.{keeps_rest, any_cut, same_cut}
 use Rattle.chdr_stream.proofs.law.any_cut_gives_the_same.Goals as goal
 
 pub returns : goal.returns

@@ -1,4 +1,4 @@
-use Rattle.chdr_stream.proofs.CutLemmas.{next_calls, pass_tells}
+use Rattle.chdr_stream.proofs.Laws.{next_calls, pass_tells}
 use Rattle.chdr_stream.proofs.law.calls_do_what_clauses_say.Goals as goal
 
 pub returns : goal.returns

@@ -1,4 +1,4 @@
-use Rattle.chdr_stream.proofs.FaultLemmas.{shows_captures, shows_only}
+use Rattle.chdr_stream.proofs.Laws.{shows_captures, shows_only}
 use Rattle.chdr_stream.proofs.law.captures_show_no_fault.Goals as goal
 
 pub returns : goal.returns

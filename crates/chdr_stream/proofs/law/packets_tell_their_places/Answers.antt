@@ -1,4 +1,4 @@
-use Rattle.chdr_stream.proofs.FaultLemmas.{shows_places}
+use Rattle.chdr_stream.proofs.Laws.{shows_places}
 use Rattle.chdr_stream.proofs.law.packets_tell_their_places.Goals as goal
 
 pub returns : goal.returns

@@ -1,4 +1,4 @@
-use Rattle.chdr_stream.proofs.FaultLemmas.{shows_first_fault, shows_longest, whole_or_faulty, has_none, has_one}
+use Rattle.chdr_stream.proofs.Laws.{shows_first_fault, shows_longest, whole_or_faulty, has_none, has_one}
 use Rattle.chdr_stream.proofs.law.the_fault_is_the_first.Goals as goal
 
 pub returns : goal.returns
