@@ -35,9 +35,9 @@ pub record Looking (P : List Placed → Type 0) (old now : Option (List ℕ)) (d
   pub bounded : Bounded d counts
   pub left : length fed + room ≡ limit
 
-pub looking_none : (P : List Placed → Type 0) (old : Option (List ℕ)) (d : Stream) (counts : Counts) → d ≡ at_of 0 [] None → counts ≡ counted 0 0 → P [] → Looking P old old d counts limit
+pub looking_none : (P : List Placed → Type 0) (old : Option (List ℕ)) (d : Stream) (counts : Counts) → d ≡ at_of 0 [] None 0 → counts ≡ counted 0 0 → P [] → Looking P old old d counts limit
 looking_none P old d counts d_is c_is p =
-    subst (λ (x : Stream). Looking P old old x counts limit) (sym d_is) (subst (λ (x : Counts). Looking P old old (at_of 0 [] None) x limit) (sym c_is) (record {
+    subst (λ (x : Stream). Looking P old old x counts limit) (sym d_is) (subst (λ (x : Counts). Looking P old old (at_of 0 [] None 0) x limit) (sym c_is) (record {
       fed = [];
       came = none_came old;
       drained = record { scanned = record { done = []; decoded = decoded_none; faultless = refl; stands = p }; empty = nothing_there };
@@ -57,12 +57,12 @@ came_then (Some x) (Some y) (Some z) bs cs p q = p ∙ ap (λ (l : List ℕ). bs
 
 -- ---- a piece more is fed
 
-fed_parts : (at : ℕ) (kept : List ℕ) (fault : Option PacketFault) (piece : List ℕ) → fault ≡ None → fed_with (at_of at kept fault) piece ≡ at_of at (kept ++ piece) fault
-fed_parts at kept None piece e = refl
-fed_parts at kept (Some fault) piece e = absurd cc
+fed_parts : (at : ℕ) (kept : List ℕ) (fault : Option PacketFault) (held : ℕ) (piece : List ℕ) → fault ≡ None → fed_with (at_of at kept fault held) piece ≡ at_of at (kept ++ piece) fault (held + length piece)
+fed_parts at kept None held piece e = refl
+fed_parts at kept (Some fault) held piece e = absurd cc
 
-fed_is : (d : Stream) (piece : List ℕ) → d.fault ≡ None → fed_with d piece ≡ at_of d.at (d.kept ++ piece) d.fault
-fed_is d piece e = fed_parts d.at d.kept d.fault piece e
+fed_is : (d : Stream) (piece : List ℕ) → d.fault ≡ None → fed_with d piece ≡ at_of d.at (d.kept ++ piece) d.fault (d.held + length piece)
+fed_is d piece e = fed_parts d.at d.kept d.fault d.held piece e
 
 -- the decoder with the piece is still the decoder of all bytes fed
 pub looking_scanned : (P : List Placed → Type 0) (old now : Option (List ℕ)) (d d2 : Stream) (counts : Counts) (room : ℕ) (piece : List ℕ) (l : Looking P old now d counts room) → d2 ≡ fed_with d piece

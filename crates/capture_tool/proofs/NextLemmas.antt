@@ -89,12 +89,12 @@ pub record Next (d d2 : Stream) (x : Placed) : Type 0 where
 abbrev given : Placed → Result (Option Placed) StreamFault
 given x = Ok (Some x)
 
-next_parts : (at : ℕ) (kept : List ℕ) (fault : Option PacketFault) (d2 : Stream) (x : Placed)
-    → answer_at (at_of at kept fault) (reading (at_of at kept fault)) ≡ given x → d2 ≡ after (at_of at kept fault) (reading (at_of at kept fault)) → Next (at_of at kept fault) d2 x
-next_parts at kept (Some fault) d2 x e a = absurd cc
-next_parts at kept None d2 x e a = cases (packet_read kept) refl e a
+next_parts : (at : ℕ) (kept : List ℕ) (fault : Option PacketFault) (held : ℕ) (d2 : Stream) (x : Placed)
+    → answer_at (at_of at kept fault held) (reading (at_of at kept fault held)) ≡ given x → d2 ≡ after (at_of at kept fault held) (reading (at_of at kept fault held)) → Next (at_of at kept fault held) d2 x
+next_parts at kept (Some fault) held d2 x e a = absurd cc
+next_parts at kept None held d2 x e a = cases (packet_read kept) refl e a
   where
-    cases : (r : Result (Option (Packet × ℕ)) PacketFault) → packet_read kept ≡ r → answer_at (at_of at kept None) r ≡ given x → d2 ≡ after (at_of at kept None) r → Next (at_of at kept None) d2 x
+    cases : (r : Result (Option (Packet × ℕ)) PacketFault) → packet_read kept ≡ r → answer_at (at_of at kept None held) r ≡ given x → d2 ≡ after (at_of at kept None held) r → Next (at_of at kept None held) d2 x
     cases (Ok None) is e a = absurd cc
     cases (Ok (Some y)) is e a =
         let same : placed at kept y.0 ≡ x = cc in
@@ -106,7 +106,7 @@ next_parts at kept None d2 x e a = cases (packet_read kept) refl e a
     cases (Err fault) is e a = absurd cc
 
 pub next : (d d2 : Stream) (x : Placed) → answer_at d (reading d) ≡ given x → d2 ≡ after d (reading d) → Next d d2 x
-next d d2 x e a = next_parts d.at d.kept d.fault d2 x e a
+next d d2 x e a = next_parts d.at d.kept d.fault d.held d2 x e a
 
 pub scanned_given : (P P2 : List Placed → Type 0) (fed : List ℕ) (d d2 : Stream) (x : Placed) → Next d d2 x → ((done : List Placed) → P done → P2 (done ++ x ∷ [])) → Scanned P fed d → Scanned P2 fed d2
 scanned_given P P2 fed d d2 x n goes_on s =

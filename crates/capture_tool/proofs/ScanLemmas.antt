@@ -31,8 +31,8 @@ pub record Passing (d d2 : Stream) (canonical : Bool) : Type 0 where
   pub plain : canonical ≡ is_plain d.kept
   pub next : d2 ≡ record d { at = d.at + size; kept = drop size d.kept }
 
-abbrev pub at_of : ℕ → List ℕ → Option PacketFault → Stream
-at_of at kept fault = record { at = at; kept = kept; fault = fault }
+abbrev pub at_of : ℕ → List ℕ → Option PacketFault → ℕ → Stream
+at_of at kept fault held = record { at = at; kept = kept; fault = fault; held = held }
 
 abbrev pub gone : Passed → Result (Option Passed) StreamFault
 gone passed = Ok (Some passed)
@@ -67,23 +67,23 @@ failed fault = Err fault
 abbrev pub fault_at : ℕ → PacketFault → Fault
 fault_at at fault = record { at = at; why = why_of fault }
 
-passing_parts : (at : ℕ) (kept : List ℕ) (fault : Option PacketFault) (d2 : Stream) (passed : Passed)
-    → gone passed ≡ passing_at (at_of at kept fault) (reading (at_of at kept fault)) → d2 ≡ after (at_of at kept fault) (reading (at_of at kept fault))
-    → Passing (at_of at kept fault) d2 passed.canonical
-passing_parts at kept (Some fault) d2 passed e a = absurd cc
-passing_parts at kept None d2 passed e a = cases (packet_read kept) refl e a
+passing_parts : (at : ℕ) (kept : List ℕ) (fault : Option PacketFault) (held : ℕ) (d2 : Stream) (passed : Passed)
+    → gone passed ≡ passing_at (at_of at kept fault held) (reading (at_of at kept fault held)) → d2 ≡ after (at_of at kept fault held) (reading (at_of at kept fault held))
+    → Passing (at_of at kept fault held) d2 passed.canonical
+passing_parts at kept (Some fault) held d2 passed e a = absurd cc
+passing_parts at kept None held d2 passed e a = cases (packet_read kept) refl e a
   where
     plain_is : (passed other : Passed) → gone passed ≡ gone other → passed.canonical ≡ other.canonical
     plain_is passed other e = let same : passed ≡ other = cc in ap (λ (p : Passed). p.canonical) same
 
-    cases : (r : Result (Option (Packet × ℕ)) PacketFault) → packet_read kept ≡ r → gone passed ≡ passing_at (at_of at kept None) r → d2 ≡ after (at_of at kept None) r
-        → Passing (at_of at kept None) d2 passed.canonical
+    cases : (r : Result (Option (Packet × ℕ)) PacketFault) → packet_read kept ≡ r → gone passed ≡ passing_at (at_of at kept None held) r → d2 ≡ after (at_of at kept None held) r
+        → Passing (at_of at kept None held) d2 passed.canonical
     cases (Ok None) is e a = absurd cc
     cases (Ok (Some x)) is e a = record { packet = x.0; size = x.1; reads = is; faultless = refl; plain = plain_is passed _ e; next = a }
     cases (Err fault) is e a = absurd cc
 
 pub passing : (d d2 : Stream) (passed : Passed) → gone passed ≡ passing_at d (reading d) → d2 ≡ after d (reading d) → Passing d d2 passed.canonical
-passing d d2 passed e a = passing_parts d.at d.kept d.fault d2 passed e a
+passing d d2 passed e a = passing_parts d.at d.kept d.fault d.held d2 passed e a
 
 counts_more : (done : List Placed) (x : Placed) → counts_of (done ++ x ∷ []) ≡ one_more (counts_of done) x.canonical
 counts_more done x =
@@ -123,7 +123,7 @@ bounded_next d d2 counts counts2 canonical p c b =
     let long : length (drop p.size d.kept) + p.size ≡ length d.kept = omega (arith, length-drop p.size d.kept, t.0) in
     let least : 8 ≤ p.size = t.1 in
     let most = one_if canonical in
-    subst (λ (x : Stream). BoundedNext d x counts2) (sym p.next) (subst (λ (x : Counts). BoundedNext d (at_of (d.at + p.size) (drop p.size d.kept) d.fault) x) (sym c) (record {
+    subst (λ (x : Stream). BoundedNext d x counts2) (sym p.next) (subst (λ (x : Counts). BoundedNext d (at_of (d.at + p.size) (drop p.size d.kept) d.fault d.held) x) (sym c) (record {
       bounded = record { within = omega (arith, b.within, long); packets = omega (arith, b.packets, least); canonical = omega (arith, b.canonical, most) };
       place = omega (arith, long);
       less = omega (arith, long, least);
@@ -131,31 +131,31 @@ bounded_next d d2 counts counts2 canonical p c b =
 
 -- ---- nothing is left, or a fault stands there
 
-none_parts : (at : ℕ) (kept : List ℕ) (fault : Option PacketFault) (d2 : Stream) → nothing ≡ passing_at (at_of at kept fault) (reading (at_of at kept fault))
-    → d2 ≡ after (at_of at kept fault) (reading (at_of at kept fault)) → (packet_read kept ≡ none_read) × (d2 ≡ at_of at kept fault)
-none_parts at kept (Some fault) d2 e a = absurd cc
-none_parts at kept None d2 e a = cases (packet_read kept) refl e a
+none_parts : (at : ℕ) (kept : List ℕ) (fault : Option PacketFault) (held : ℕ) (d2 : Stream) → nothing ≡ passing_at (at_of at kept fault held) (reading (at_of at kept fault held))
+    → d2 ≡ after (at_of at kept fault held) (reading (at_of at kept fault held)) → (packet_read kept ≡ none_read) × (d2 ≡ at_of at kept fault (length kept))
+none_parts at kept (Some fault) held d2 e a = absurd cc
+none_parts at kept None held d2 e a = cases (packet_read kept) refl e a
   where
-    cases : (r : Result (Option (Packet × ℕ)) PacketFault) → packet_read kept ≡ r → nothing ≡ passing_at (at_of at kept None) r → d2 ≡ after (at_of at kept None) r
-        → (packet_read kept ≡ none_read) × (d2 ≡ at_of at kept None)
+    cases : (r : Result (Option (Packet × ℕ)) PacketFault) → packet_read kept ≡ r → nothing ≡ passing_at (at_of at kept None held) r → d2 ≡ after (at_of at kept None held) r
+        → (packet_read kept ≡ none_read) × (d2 ≡ at_of at kept None (length kept))
     cases (Ok None) is e a = (is, a)
     cases (Ok (Some x)) is e a = absurd cc
     cases (Err fault) is e a = absurd cc
 
 pub drained : (P : List Placed → Type 0) (fed : List ℕ) (d d2 : Stream) → nothing ≡ passing_at d (reading d) → d2 ≡ after d (reading d) → Scanned P fed d → Drained P fed d2
 drained P fed d d2 e a s =
-    let n = none_parts d.at d.kept d.fault d2 e a in
-    subst (λ (x : Stream). Drained P fed x) (sym n.1) (record { scanned = s; empty = n.0 })
+    let n = none_parts d.at d.kept d.fault d.held d2 e a in
+    subst (λ (x : Stream). Drained P fed x) (sym n.1) (record { scanned = record { done = s.done; decoded = s.decoded; faultless = s.faultless; stands = s.stands }; empty = n.0 })
 
-bad_parts : (at : ℕ) (kept : List ℕ) (fault : Option PacketFault) (d2 : Stream) (place : ℕ) (found_fault : PacketFault) → fault ≡ None
-    → stands place found_fault ≡ passing_at (at_of at kept fault) (reading (at_of at kept fault)) → (packet_read kept ≡ Err found_fault) × (place ≡ at)
-bad_parts at kept (Some fault) d2 place found_fault clear e = absurd cc
-bad_parts at kept None d2 place found_fault clear e = cases (packet_read kept) refl e
+bad_parts : (at : ℕ) (kept : List ℕ) (fault : Option PacketFault) (held : ℕ) (d2 : Stream) (place : ℕ) (found_fault : PacketFault) → fault ≡ None
+    → stands place found_fault ≡ passing_at (at_of at kept fault held) (reading (at_of at kept fault held)) → (packet_read kept ≡ Err found_fault) × (place ≡ at)
+bad_parts at kept (Some fault) held d2 place found_fault clear e = absurd cc
+bad_parts at kept None held d2 place found_fault clear e = cases (packet_read kept) refl e
   where
     place_is : (a b : ℕ) (f g : PacketFault) → stands a f ≡ stands b g → (a ≡ b) × (f ≡ g)
     place_is a b f g e = (cc, cc)
 
-    cases : (r : Result (Option (Packet × ℕ)) PacketFault) → packet_read kept ≡ r → stands place found_fault ≡ passing_at (at_of at kept None) r → (packet_read kept ≡ Err found_fault) × (place ≡ at)
+    cases : (r : Result (Option (Packet × ℕ)) PacketFault) → packet_read kept ≡ r → stands place found_fault ≡ passing_at (at_of at kept None held) r → (packet_read kept ≡ Err found_fault) × (place ≡ at)
     cases (Ok None) is e = absurd cc
     cases (Ok (Some x)) is e = absurd cc
     cases (Err other) is e = let p = place_is place at found_fault other e in (is ∙ ap (λ (f : PacketFault). failed f) (sym p.1), p.0)
@@ -163,7 +163,7 @@ bad_parts at kept None d2 place found_fault clear e = cases (packet_read kept) r
 pub stopped : (P : List Placed → Type 0) (fed : List ℕ) (d d2 : Stream) (place : ℕ) (fault : PacketFault) → stands place fault ≡ passing_at d (reading d) → Scanned P fed d
     → Stopped P fed (fault_at place fault)
 stopped P fed d d2 place fault e s =
-    let b = bad_parts d.at d.kept d.fault d2 place fault s.faultless e in
+    let b = bad_parts d.at d.kept d.fault d.held d2 place fault s.faultless e in
     let is : (more : List ℕ) → capture_of (fed ++ more) ≡ capture s.done (Some (d.at, bad fault)) = λ more. decoded_bad fed s.done d.at d.kept more fault b.0 s.decoded in
     record {
       done = s.done;

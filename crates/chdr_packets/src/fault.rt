@@ -3,16 +3,22 @@ ghost use Rattle.chdr_packets.specs.declared.fault.PacketFault.TheVariants as fa
 
 use chdr_words::MsgFault;
 use rf_base::Memory;
+use thiserror::Error;
 
-/// Why there is no packet at the front of bytes, by the first test that fails.
-#[derive(Clone, Copy, Debug, PartialEq, Eq)]
+/// Why there is no packet at the front of bytes, by the first test that fails; each fault prints
+/// as its name in a listing.
+#[derive(Clone, Copy, Debug, PartialEq, Eq, Error)]
 pub enum PacketFault {
     /// The type is 3 or 5.
+    #[error("ReservedType")]
     ReservedType,
     /// Length is shorter than header, timestamp and metadata.
+    #[error("BadLength")]
     BadLength,
     /// The payload is no spelling of its kind.
+    #[error(transparent)]
     Message(MsgFault),
+    #[error("out of memory")]
     Memory,
 }
 

@@ -2,6 +2,7 @@ ghost use Rattle.std.specs.Prelude.{◌≡◌, ◌+◌, length};
 
 use crate::{Decoder, FinishFault, Passed, StreamFault};
 use chdr_packets::{Body, PacketFault};
+use chdr_words::MsgFault;
 use std::test::Fail;
 
 /// Samples; samples with a pad byte that isn't zero; a register's read at its short size.
@@ -68,6 +69,19 @@ fn a_packet_is_whole(rt: HostRuntime) -> Result<(), Fail> {
     assert_eq!(rt; placed.at, 0);
     assert_eq!(rt; placed.packet.dst.0, 2);
     assert!(rt; matches!(placed.packet.body, Body::Control(_)));
+    Ok(())
+}
+
+#[test]
+fn faults_say_their_reason_and_place(rt: HostRuntime) -> Result<(), Fail> {
+    assert_eq!(rt; format!(in rt.alloc(); "{BAD_AT_16}")?.as_str(), "BadLength at 16");
+    let message = StreamFault::Bad {
+        at: 8,
+        fault: PacketFault::Message(MsgFault::BadManagement),
+    };
+    assert_eq!(rt; format!(in rt.alloc(); "{message}")?.as_str(), "BadManagement at 8");
+    let cut = FinishFault::Truncated { at: 24 };
+    assert_eq!(rt; format!(in rt.alloc(); "{cut}")?.as_str(), "Truncated at 24");
     Ok(())
 }
 
