@@ -4,7 +4,8 @@ use Rattle.std.proofs.lemmas.List.{at_drop_more}
 use Rattle.std.proofs.lemmas.List.Sums.{fold_more}
 use Rattle.chdr_words.specs.declared.epid.Epid.{Epid}
 use Rattle.chdr_words.specs.declared.management.MgmtOp.{MgmtOp}
-use Rattle.net_nodes.specs.Operations.{operation_of, asked, asked_in}
+use Rattle.chdr_words.specs.Operation.{operation_of}
+use Rattle.net_nodes.specs.Operations.{asked, asked_in}
 use Rattle.net_nodes.specs.Perform.{Work, operated}
 use Rattle.net_nodes.specs.declared.site.Site.{Site}
 

@@ -1,2 +1,5 @@
+pub mod BudgetLemmas
+pub mod EntryLemmas
 pub mod HopLemmas
+pub mod Laws
 pub mod TableLemmas

@@ -1,3 +1,5 @@
+pub mod Budget
+pub mod Laws
 pub mod Operations
 pub mod Perform
 pub mod Switch

@@ -1,14 +1,12 @@
 -- What a node does with the operations of a hop.
 use Rattle.std.specs.Prelude.{◌==◌, ◌&&◌, not, ℕ, ◌-◌, ◌/◌, ◌%◌, ◌^◌, Bool, List, [], ◌∷◌, ◌++◌, length, drop, fold, slice_index_or, slice_set, nat_lt, unwrap_or, if◌then◌else◌}
-use Rattle.chdr_words.specs.Cfg.{cfg_payload}
-use Rattle.chdr_words.specs.NodeInfo.{info_payload}
+use Rattle.chdr_words.specs.Operation.{operation_of, spelled_op}
 use Rattle.chdr_words.specs.declared.epid.Epid.{Epid}
 use Rattle.chdr_words.specs.declared.management.Management.{Management}
 use Rattle.chdr_words.specs.declared.management.MgmtOp.{MgmtOp}
-use Rattle.net_nodes.specs.Operations.{operation_of}
+use Rattle.chdr_words.specs.declared.operation.Operation.{Operation}
+use Rattle.chdr_words.specs.declared.operation.Operation.TheVariants as op
 use Rattle.net_nodes.specs.Table.{exit_of, with_exit}
-use Rattle.net_nodes.specs.declared.operation.Operation.{Operation}
-use Rattle.net_nodes.specs.declared.operation.Operation.TheVariants as op
 use Rattle.net_nodes.specs.declared.site.Done.{Done}
 use Rattle.net_nodes.specs.declared.site.Done.TheVariants as done
 use Rattle.net_nodes.specs.declared.site.Site.{Site}
@@ -36,14 +34,12 @@ exit_by site port =
 
 -- the answer to INFO_REQ
 abbrev pub info_answer : Site → MgmtOp
-info_answer site = record { code = 5; payload = info_payload site.info }
+info_answer site = spelled_op (op.InfoResp site.info)
 
--- the answer to CFG_RD_REQ: the entry's port, or 0xffffffff where there is none
+-- the answer to CFG_RD_REQ: the entry's port, or 0xffffffff if there is none
 abbrev pub read_answer : List Place → ℕ → MgmtOp
-read_answer table addr = record {
-  code = 8;
-  payload = cfg_payload (record { addr = addr; value = unwrap_or (exit_of table (record { 0 = addr })) 0xffffffff });
-}
+read_answer table addr =
+    spelled_op (op.CfgReadResp (record { addr = addr; value = unwrap_or (exit_of table (record { 0 = addr })) 0xffffffff }))
 
 -- what a node does with an operation of a packet from src
 abbrev pub effect : Site → Epid → Work → Operation → Work
@@ -52,12 +48,12 @@ effect site src work op.Advertise = record work { table = with_exit work.table s
 effect site src work (op.SelectDest port) = record work { exit = exit_by site port }
 effect site src work op.Return = record work { exit = done.Return }
 effect site src work op.InfoReq = record work { last = work.last ++ info_answer site ∷ [] }
-effect site src work op.InfoResp = work
+effect site src work (op.InfoResp info) = work
 effect site src work (op.CfgWrite cfg) =
     if nat_lt cfg.value site.ports then record work { table = with_exit work.table (record { 0 = cfg.addr }) cfg.value } else work
 effect site src work (op.CfgRead addr) =
     record work { last = work.last ++ read_answer work.table addr ∷ [] }
-effect site src work op.CfgReadResp = work
+effect site src work (op.CfgReadResp cfg) = work
 effect site src work (op.Other code) = work
 
 -- the first hop of a packet

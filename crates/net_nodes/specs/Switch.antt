@@ -1,21 +1,26 @@
 -- Crossbars, adapters and end nodes as sites.
-use Rattle.std.specs.Prelude.{◌≡◌, ℕ, ◌+◌, ◌*◌, ◌<◌, ◌≤◌}
+use Rattle.std.specs.Prelude.{◌≡◌, ℕ, ◌+◌, ◌*◌, ◌^◌, ◌<◌, ◌≤◌}
 use Rattle.chdr_words.specs.declared.node_info.NodeKind.{NodeKind}
 use Rattle.chdr_words.specs.declared.node_info.NodeKind.TheVariants as kinds
+use Rattle.net_nodes.specs.Table.{HasEntries}
 use Rattle.net_nodes.specs.declared.end_node.EndNode.{EndNode}
 use Rattle.net_nodes.specs.declared.site.Site.{Site}
 use Rattle.net_nodes.specs.declared.switch.Switch.{Switch}
 
--- a crossbar's number is below 1,024, and it has 1 to 32 ports
+-- a crossbar's number is below 1,024, it has 1 to 32 ports, and its links and entries are at these
 pub record FitsCrossbar (switch : Switch) : Type 0 where
   pub instance : switch.instance < 1024
   pub some : 1 ≤ switch.ports
   pub many : switch.ports ≤ 32
+  pub linked : switch.linked < 2 ^ switch.ports
+  pub entries : HasEntries switch.ports switch.table
 
--- an adapter's number is below 1,024, and it has two ports
+-- an adapter's number is below 1,024, it has two ports, and its links and entries are at these
 pub record FitsAdapter (switch : Switch) : Type 0 where
   pub instance : switch.instance < 1024
   pub two : switch.ports ≡ 2
+  pub linked : switch.linked < 2 ^ switch.ports
+  pub entries : HasEntries switch.ports switch.table
 
 -- a crossbar or an adapter, by its kind, at which a packet came by a port
 abbrev pub switch_site : NodeKind → Switch → ℕ → Site

@@ -1,5 +1,5 @@
 -- The table of a node: a finite map from the EPIDs that have a place to ports.
-use Rattle.std.specs.Prelude.{◌≡◌, ◌==◌, ◌||◌, ◌<◌, ℕ, Bool, false, IsTrue, List, [], ◌∷◌, length, Option, None, Some, slice_index_or, if◌then◌else◌}
+use Rattle.std.specs.Prelude.{◌≡◌, ◌==◌, ◌||◌, ◌<◌, ℕ, Bool, false, IsTrue, List, [], ◌∷◌, length, Option, None, Some, slice_index_or, All, IfSome, if◌then◌else◌}
 use Rattle.chdr_words.specs.declared.epid.Epid.{Epid}
 use Rattle.net_nodes.specs.declared.table.Place.{Place}
 
@@ -7,7 +7,7 @@ use Rattle.net_nodes.specs.declared.table.Place.{Place}
 abbrev pub no_exit : Epid → Place
 no_exit epid = record { epid = epid; exit = None }
 
--- the entry of an EPID: a port, where it has a place and one is known
+-- the entry of an EPID: a port, if it has a place and one is known
 abbrev pub exit_of : List Place → Epid → Option ℕ
 exit_of [] epid = None
 exit_of (place ∷ places) epid =
@@ -24,6 +24,10 @@ with_exit [] epid port = []
 with_exit (place ∷ places) epid port =
     if place.epid.0 == epid.0 then record { epid = place.epid; exit = Some port } ∷ places
     else place ∷ with_exit places epid port
+
+-- each entry is below a bound
+abbrev pub HasEntries : ℕ → List Place → Type 0
+HasEntries bound places = All (λ place. IfSome place.exit (λ port. port < bound)) places
 
 -- the place of this number
 abbrev pub place_at : List Place → ℕ → Place

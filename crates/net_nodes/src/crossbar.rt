@@ -1,7 +1,7 @@
-ghost use Rattle.std.specs.Prelude.{◌≡◌, ◌+◌, ◌≤◌, ◌<◌, ◌^◌, map, length, IfOk};
+ghost use Rattle.std.specs.Prelude.{◌≡◌, ◌↔◌, ◌+◌, ◌≤◌, ◌<◌, ◌^◌, IsTrue, map, length, IfOk, IfSome};
 ghost use Rattle.net_nodes.specs.Operations.{asked_in};
 ghost use Rattle.net_nodes.specs.Perform.{first_hop, last_hop, performed, without_first, work_of};
-ghost use Rattle.net_nodes.specs.Switch.{crossbar_site};
+ghost use Rattle.net_nodes.specs.Switch.{FitsCrossbar, crossbar_site};
 ghost use Rattle.net_nodes.specs.Table.{no_exit, exit_of, with_exit};
 
 use crate::{Done, Room, Switch};
@@ -27,6 +27,7 @@ impl Model for Crossbar {
     ghost invariant = { λ node. FitsCrossbar node.switch };
 }
 
+#[tactic(auto, using(crate::proofs::EntryLemmas::entry_lemmas))]
 impl Crossbar {
     /// The node with a place for each EPID and no entries; bit p of `linked` says that port p has
     /// a link.
@@ -52,9 +53,18 @@ impl Crossbar {
         Ok(Crossbar { switch })
     }
 
+    /// Whether the node has a port of this number.
+    pub fn has_port(&self, port: u8) -> bool
+        ensures value { IsTrue result ↔ port < self.now.ports }
+        ensures fits { FitsCrossbar self.now }
+    {
+        port < self.switch.ports
+    }
+
     /// The port by which packets to an EPID leave.
     pub fn route(&self, dst: Epid) -> Option<u8>
-        ensures { result ≡ exit_of self.now.table dst }
+        ensures value { result ≡ exit_of self.now.table dst }
+        ensures port { IfSome result (λ port. port < self.now.ports) }
     {
         self.switch.table.exit(dst)
     }

@@ -4,8 +4,8 @@ ghost use Rattle.chdr_words.specs.NodeInfo.{FitsInfo};
 ghost use Rattle.net_nodes.specs.Operations.{asked, asked_in};
 ghost use Rattle.net_nodes.specs.Perform.{has_link, exit_by, work_of, effect, operated, first_hop, last_hop, performed, without_first, read_answer};
 
-use crate::{Done, Operation, Room, Site, Table};
-use chdr_words::{Cfg, Epid, Hop, Management, MgmtOp};
+use crate::{Done, Room, Site, Table};
+use chdr_words::{Cfg, Epid, Hop, Management, MgmtOp, Operation};
 use rf_base::Items;
 use std::alloc::Global;
 use std::mem;
@@ -34,10 +34,7 @@ fn read_answer(table: &Table, addr: u16) -> MgmtOp
         Some(port) => port as u32,
         None => 0xffff_ffff,
     };
-    MgmtOp {
-        code: 8,
-        payload: Cfg { addr, value }.pack(),
-    }
+    Operation::CfgReadResp(Cfg { addr, value }).spelled()
 }
 
 /// One operation of a packet from `src`; `last` is the packet's last hop as it grows.
@@ -61,18 +58,15 @@ fn perform_operation(
         Operation::Advertise => table.set(src, site.arrival),
         Operation::SelectDest(port) => *exit = exit_by(site, port),
         Operation::Return => *exit = Done::Return,
-        Operation::InfoReq => last.push_reserved(MgmtOp {
-            code: 5,
-            payload: site.info.pack(),
-        }),
-        Operation::InfoResp => {}
+        Operation::InfoReq => last.push_reserved(Operation::InfoResp(site.info).spelled()),
+        Operation::InfoResp(_) => {}
         Operation::CfgWrite(cfg) => {
             if cfg.value < site.ports as u32 {
                 table.set(Epid(cfg.addr), cfg.value as u8);
             }
         }
         Operation::CfgRead(addr) => last.push_reserved(read_answer(table, addr)),
-        Operation::CfgReadResp => {}
+        Operation::CfgReadResp(_) => {}
         Operation::Other(_) => {}
     }
 }

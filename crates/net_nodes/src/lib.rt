@@ -5,7 +5,7 @@ mod adapter;
 mod crossbar;
 mod end_node;
 mod hop;
-mod operation;
+pub mod law;
 mod room;
 mod site;
 mod switch;
@@ -14,11 +14,10 @@ mod table;
 pub use adapter::Adapter;
 pub use crossbar::Crossbar;
 pub use end_node::EndNode;
-pub use operation::Operation;
 pub use room::{Room, asked_answers, reserve_answers};
 pub use site::{Done, Site};
 pub use switch::Switch;
-pub use table::{Place, Table, tables_are_maps};
+pub use table::{Place, Table};
 
 #[cfg(test)]
 mod tests;

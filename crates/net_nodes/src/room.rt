@@ -1,10 +1,10 @@
-ghost use Rattle.std.specs.Prelude.{◌≡◌, ◌+◌, ◌≤◌, [], length, IfOk};
+ghost use Rattle.std.specs.Prelude.{◌≡◌, ◌↔◌, ◌+◌, ◌≤◌, [], IsTrue, length, IfOk};
 ghost use Rattle.std.specs.Vec.{vec_capacity};
-ghost use Rattle.net_nodes.specs.Operations.{asked_in};
+ghost use Rattle.net_nodes.specs.Budget.{Serves};
+ghost use Rattle.net_nodes.specs.Operations.{asked, asked_in};
 ghost use Rattle.net_nodes.specs.Perform.{first_hop, last_hop};
 
-use crate::Operation;
-use chdr_words::{Management, MgmtOp};
+use chdr_words::{Management, MgmtOp, Operation};
 use rf_base::Memory;
 use std::alloc::Global;
 use std::marker::Model;
@@ -29,6 +29,15 @@ impl Model for Room {
 impl Room {
     pub(crate) fn allocator(&self) -> Global {
         *self.spare.allocator()
+    }
+
+    /// Whether the packet has a hop besides its last, and the last has room here with the answers
+    /// of the first: what `perform` asks for.
+    pub fn serves(&self, m: &Management) -> bool
+        ensures { IsTrue result ↔ Serves self.now m.now }
+    {
+        let room = self.spare.capacity();
+        m.hops.len() >= 2 && last_len(m) <= room && asked_answers(m) <= room - last_len(m)
     }
 
     pub(crate) fn into_vec(self) -> Vec<MgmtOp>
@@ -75,7 +84,25 @@ fn asked_in(ops: &[MgmtOp]) -> usize
 {
     let mut count = 0;
     for op in ops {
-        count += Operation::of(*op).asked();
+        count += asked(Operation::of(*op));
     }
     count
+}
+
+/// How many answers an operation asks: one or none.
+fn asked(operation: Operation) -> usize
+    ensures value { result ≡ asked operation }
+    ensures one { result ≤ 1 }
+{
+    match operation {
+        Operation::InfoReq | Operation::CfgRead(_) => 1,
+        Operation::Nop
+        | Operation::Advertise
+        | Operation::SelectDest(_)
+        | Operation::Return
+        | Operation::InfoResp(_)
+        | Operation::CfgWrite(_)
+        | Operation::CfgReadResp(_)
+        | Operation::Other(_) => 0,
+    }
 }

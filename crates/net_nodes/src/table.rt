@@ -1,13 +1,12 @@
-ghost use Rattle.std.specs.Prelude.{◌≡◌, ◌==◌, ◌&&◌, ℕ, Some, [], map, IfOk, if◌then◌else◌};
-ghost use Rattle.chdr_words.specs.declared.epid.Epid.{Epid};
-ghost use Rattle.net_nodes.specs.Table.{no_exit, exit_of, with_exit, has_place, IsPlaceOf};
+ghost use Rattle.std.specs.Prelude.{◌≡◌, [], map, IfOk};
+ghost use Rattle.net_nodes.specs.Table.{no_exit, exit_of, with_exit, IsPlaceOf};
 
 use chdr_words::{Epid, EpidList};
 use rf_base::Memory;
 use std::alloc::Global;
 use std::marker::Model;
 
-/// The place of one EPID in a table, with the port by which its packets leave, where one is known.
+/// The place of one EPID in a table, with the port by which its packets leave, if one is known.
 #[derive(Clone, Copy, Debug, PartialEq, Eq)]
 pub struct Place {
     pub epid: Epid,
@@ -85,13 +84,4 @@ impl Table {
         }
         None
     }
-}
-
-/// A table is a finite map: a new entry is found at its EPID, and every other entry stays.
-pub fn tables_are_maps(table: &Table)
-    ensures { (epid other : Epid) (port : ℕ) → exit_of (with_exit table.now epid port) other
-        ≡ (if other.0 == epid.0 && has_place table.now epid then Some port
-        else exit_of table.now other) }
-{
-    let _ = table;
 }
