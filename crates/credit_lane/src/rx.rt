@@ -57,10 +57,11 @@ impl LaneRx<'_> {
         packet.unwrap()
     }
 
-    /// Looks at the number of packets put, and answers it.
+    /// Looks at the number of packets put, and returns it.
     pub fn look_put(&mut self) -> u64
         ensures answer { result ≡ length self.new.known }
         ensures known { IsPrefix self.old.known self.new.known }
+        ensures order { IsPrefix self.new.got self.new.known }
         ensures plan { IsPlanned self.new.lane.plan self.new.known }
         ensures lane { self.new.lane ≡ self.old.lane }
         ensures kept { self.new.got ≡ self.old.got }
