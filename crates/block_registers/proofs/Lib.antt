@@ -1,4 +1,6 @@
-pub mod BitLemmas
-pub mod RegisterLemmas
-pub mod RequestLemmas
+mod BitLemmas
+mod CallLemmas
+pub mod Laws
+mod RegisterLemmas
+mod RequestLemmas
 pub mod SlotLemmas

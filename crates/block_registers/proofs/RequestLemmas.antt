@@ -6,7 +6,7 @@ use Rattle.chdr_words.specs.declared.control.Control.{Control}
 use Rattle.chdr_words.specs.declared.control.CtrlOp.{CtrlOp}
 use Rattle.chdr_words.specs.declared.control.CtrlOp.TheVariants.{Sleep, Write, Read, ReadWrite, BlockWrite, BlockRead, Poll, Other, User}
 use Rattle.block_registers.specs.Registers.{Registers, Change, is_register, written, written_one}
-use Rattle.block_registers.specs.Operations.{Bank, accepts, accepts_op, accepted, writes_op, registers_after, after_all}
+use Rattle.block_registers.specs.Operations.{Bank, accepts, accepts_op, accepted, writes_op, registers_after, after_all, WritesAreFolded}
 
 length-cond : (b : Bool) (xs ys : List ℕ) → length xs ≡ length ys → length (cond b xs ys) ≡ length ys
 length-cond true xs ys e = e
@@ -56,3 +56,16 @@ words-after_all bank (r ∷ rs) =
     words-after_all next rs
     ∙ ap (written bank.masks next.words) (flat_map-accepted next bank rs e)
     ∙ sym (fold-append (written_one bank.masks) bank.words (accepted (Bank bank) r) (flat_map (accepted (Bank bank)) rs))
+
+masks-after_all : (bank : Registers) (requests : List Control) → (after_all bank requests).masks ≡ bank.masks
+unfolding registers_after
+masks-after_all bank [] = refl
+masks-after_all bank (r ∷ rs) = masks-after_all (registers_after bank r) rs
+
+pub writes_are_folded : WritesAreFolded
+writes_are_folded bank requests = (
+  words-after_all bank requests,
+  masks-after_all bank requests,
+  ap length (words-after_all bank requests)
+      ∙ length-written bank.masks bank.words (flat_map (accepted (Bank bank)) requests),
+)

@@ -39,3 +39,5 @@ unfolding outcome accepts
 outcome-nowhere request = refl
 
 pub ruleset slot_lemmas = (bank_at-registers_in, registers_in-set)
+
+pub ruleset size_lemmas = (length-registers_in)

@@ -1,6 +1,6 @@
 -- Control operations on registers; docs/registers.md has their table.
-use Rattle.std.specs.Prelude.{◌+◌, ◌*◌, ◌&&◌, ℕ, Bool, true, false, List, [], ◌∷◌, Option, Some, None, if◌then◌else◌, nat_lt, length, map, slice_index}
-use Rattle.std.specs.List.{range_with_len, list_all, fold}
+use Rattle.std.specs.Prelude.{◌≡◌, ◌+◌, ◌*◌, ◌&&◌, ℕ, Bool, true, false, List, [], ◌∷◌, Option, Some, None, if◌then◌else◌, nat_lt, length, map, slice_index}
+use Rattle.std.specs.List.{flat_map, range_with_len, list_all, fold}
 use Rattle.chdr_words.specs.declared.epid.Epid.{Epid}
 use Rattle.chdr_words.specs.declared.control.Control.{Control}
 use Rattle.chdr_words.specs.declared.control.CtrlOp.{CtrlOp}
@@ -108,6 +108,14 @@ registers_after bank request = record bank { words = written bank.masks bank.wor
 -- the registers after requests in turn
 abbrev pub after_all : Registers → List Control → Registers
 after_all bank requests = fold registers_after bank requests
+
+-- requests in turn leave the words that their accepted writes leave, and the masks; which writes are accepted can be
+-- judged beforehand, since that depends on the number of the words alone
+abbrev pub WritesAreFolded : Type 0
+WritesAreFolded = (bank : Registers) (requests : List Control) →
+    ((after_all bank requests).words ≡ written bank.masks bank.words (flat_map (accepted (Bank bank)) requests))
+    × ((after_all bank requests).masks ≡ bank.masks)
+    × (length (after_all bank requests).words ≡ length bank.words)
 
 abbrev pub status_of : Option (List ℕ) → CtrlStatus
 status_of None = CmdErr

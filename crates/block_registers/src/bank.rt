@@ -1,7 +1,8 @@
 ghost use Rattle.std.specs.Prelude.{◌≡◌, ℕ, List, length};
 ghost use Rattle.block_registers.specs.Registers.{is_register, register, written_one, change};
 
-/// Registers of 32 bits that a device offers, each with a mask of the bits that can be written.
+/// Registers of 32 bits that a device offers, each with a mask of the bits that can be written, so
+/// that there are as many masks as words.
 ///
 /// Register i stands at the address 4i. A bank whose word changes by itself, as a counter does, is
 /// no bank: its words change by `write` alone.
@@ -12,18 +13,20 @@ pub trait RegisterBank: Drop {
 
     /// How many registers there are.
     fn len(&self) -> u32
-        ensures { result ≡ length (words self.now) };
+        ensures words { result ≡ length (words self.now) }
+        ensures masks { length (masks self.now) ≡ length (words self.now) };
 
-    /// The word at an address; none where no register stands there.
+    /// The word at an address; none if no register stands there.
     fn read(&self, addr: u32) -> Option<u32>
         ensures { result ≡ register (words self.now) addr };
 
-    /// Writes the bits that the mask and the enabled bytes allow; false where no register stands there.
+    /// Writes the bits that the mask and the enabled bytes allow; false if no register stands there.
     fn write(&mut self, addr: u32, value: u32, enables: u8) -> bool
         ensures found { result ≡ is_register (words self.old) addr }
         ensures words { words self.new ≡
             written_one (masks self.old) (words self.old) (change addr value enables) }
-        ensures masks { masks self.new ≡ masks self.old };
+        ensures masks { masks self.new ≡ masks self.old }
+        ensures equal { length (masks self.old) ≡ length (words self.old) };
 }
 
 /// A bank that the caller has boxed.

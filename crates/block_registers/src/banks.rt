@@ -1,4 +1,4 @@
-ghost use Rattle.std.specs.Prelude.{◌≡◌, ◌<◌, ℕ, List, Option, Some, None, IfOk, replicate, slice_set, option_map, vec_len, is_some};
+ghost use Rattle.std.specs.Prelude.{◌≡◌, ◌<◌, ℕ, List, length, Option, Some, None, IfOk, replicate, slice_set, option_map, vec_len, is_some};
 ghost use Rattle.chdr_words.specs.Control.{FitsControl};
 ghost use Rattle.block_registers.specs.Registers.{Registers, registers};
 ghost use Rattle.block_registers.specs.Operations.{answer};
@@ -12,19 +12,24 @@ use std::alloc::Global;
 
 /// Slots for banks, by the ports that they serve.
 pub trait RegisterSlots: Drop {
-    /// The registers in each slot, where it has a bank.
+    /// The registers in each slot, if it has a bank.
     ghost slots: { Self → List (Option Registers) };
+
+    /// How many slots there are.
+    ghost size: { ℕ };
 
     /// Carries a request out on the bank of a slot, and acknowledges it as `me`; it takes no memory.
     fn operate(&mut self, me: Epid, slot: Option<u16>, request: &Control) -> Control
         requires { FitsControl request.now }
         ensures answer { result ≡ answer me (place_of (slots self.old) slot) request.now }
-        ensures slots { slots self.new ≡ slots_after (slots self.old) slot request.now };
+        ensures slots { slots self.new ≡ slots_after (slots self.old) slot request.now }
+        ensures size { length (slots self.old) ≡ size };
 
-    /// Takes the bank out of a slot and drops it; false where the slot is empty or isn't there.
+    /// Takes the bank out of a slot and drops it; false if the slot is empty or isn't there.
     fn discard(&mut self, port: u16) -> bool
         ensures found { result ≡ is_some (bank_at (slots self.old) port) }
-        ensures slots { slots self.new ≡ slice_set (slots self.old) port None };
+        ensures slots { slots self.new ≡ slice_set (slots self.old) port None }
+        ensures size { length (slots self.old) ≡ size };
 }
 
 /// Sixteen slots, for the ports 0 to 15.
@@ -49,6 +54,7 @@ impl Banks {
     }
 
     /// Puts a bank into a slot, and gives the one that was there.
+    #[tactic(auto, using(crate::proofs::SlotLemmas::size_lemmas))]
     pub fn load(&mut self, port: u16, bank: Bank) -> Option<Bank>
         requires { port < 16 }
         ensures given { option_map (λ given. registers (words given) (masks given)) result ≡
@@ -56,24 +62,30 @@ impl Banks {
         ensures slots { ⟦<Banks as RegisterSlots>⟧.slots self.new ≡
             slice_set (⟦<Banks as RegisterSlots>⟧.slots self.old) port
             (Some (registers (words bank) (masks bank))) }
+        ensures size { length (⟦<Banks as RegisterSlots>⟧.slots self.old) ≡ 16 }
     {
         put_in(&mut self.slots, port as usize, bank)
     }
 
-    /// Takes the bank out of a slot; none where the slot is empty or isn't there.
+    /// Takes the bank out of a slot; none if the slot is empty or isn't there.
+    #[tactic(auto, using(crate::proofs::SlotLemmas::size_lemmas))]
     pub fn unload(&mut self, port: u16) -> Option<Bank>
         ensures given { option_map (λ given. registers (words given) (masks given)) result ≡
             bank_at (⟦<Banks as RegisterSlots>⟧.slots self.old) port }
         ensures slots { ⟦<Banks as RegisterSlots>⟧.slots self.new ≡
             slice_set (⟦<Banks as RegisterSlots>⟧.slots self.old) port None }
+        ensures size { length (⟦<Banks as RegisterSlots>⟧.slots self.old) ≡ 16 }
     {
         take_from(&mut self.slots, port as usize)
     }
 }
 
+#[tactic(auto, using(crate::proofs::SlotLemmas::size_lemmas))]
 impl RegisterSlots for Banks {
     ghost slots = { λ banks. registers_in (λ bank. (RegisterBank-box bank).words bank.value) (λ
         bank. (RegisterBank-box bank).masks bank.value) banks.slots.items };
+
+    ghost size = { 16 };
 
     fn operate(&mut self, me: Epid, slot: Option<u16>, request: &Control) -> Control {
         operate_in(&mut self.slots, me, slot, request)

@@ -1,13 +1,17 @@
-ghost use Rattle.std.specs.Prelude.{◌≡◌, List};
-ghost use Rattle.std.specs.List.{flat_map};
-ghost use Rattle.chdr_words.specs.declared.control.Control.{Control};
-ghost use Rattle.block_registers.specs.Registers.{Registers, written};
-ghost use Rattle.block_registers.specs.Operations.{Bank, accepted, after_all};
+ghost use Rattle.block_registers.specs.Operations.{WritesAreFolded};
+ghost use Rattle.block_registers.specs.Slots.{EachSlotSeesItsOwn, AnswersGoOn};
 
-/// A list of requests leaves the words that their accepted writes leave, one after another.
-///
-/// Which writes are accepted can be judged beforehand: it depends on the number of the words alone.
-pub fn requests_law()
-    ensures { (bank : Registers) (requests : List Control) → (after_all bank requests).words ≡
-        written bank.masks bank.words (flat_map (accepted (Bank bank)) requests) }
+/// Requests leave the words that their accepted writes leave, one after another, and the masks.
+pub fn requests_leave_their_writes()
+    ensures { WritesAreFolded }
+{}
+
+/// Of requests to slots each bank sees those to its own slot, in order.
+pub fn each_slot_sees_its_own_requests()
+    ensures { EachSlotSeesItsOwn }
+{}
+
+/// Later requests are answered by what the earlier ones leave.
+pub fn later_answers_follow_earlier_requests()
+    ensures { AnswersGoOn }
 {}
