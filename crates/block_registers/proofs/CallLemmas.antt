@@ -23,9 +23,9 @@ bank_at-set slots slot port request true e =
     ⊎_elim
     (λ in_range. rw (← eqb-true slot port e) (get_or-set_same slots slot (option_map (λ k. registers_after k request) (bank_at slots slot)) None in_range))
     (λ past. rw (← eqb-true slot port e)
-        (ap (λ ss. get_or ss slot None) (set_past slots slot (option_map (λ k. registers_after k request) (bank_at slots slot)) past)
-        ∙ get_or_past slots slot None past
-        ∙ sym (ap (option_map (λ k. registers_after k request)) (get_or_past slots slot None past))))
+    (ap (λ ss. get_or ss slot None) (set_past slots slot (option_map (λ k. registers_after k request) (bank_at slots slot)) past)
+    ∙ get_or_past slots slot None past
+    ∙ sym (ap (option_map (λ k. registers_after k request)) (get_or_past slots slot None past))))
     (cases_lt slot (length slots))
 
 after_one : (slots : List (Option Registers)) (call : Call) (port : ℕ) →

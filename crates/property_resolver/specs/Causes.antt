@@ -40,7 +40,7 @@ pub record IsUnsettled (diagram : Diagram) (at : PropAt) : Type 0 where
   pub closed : IsClosed diagram pairs
   pub least : IsFirstMissing pairs (properties diagram.kinds) at
 
--- the cause of a refusal; want of memory has none
+-- the cause of a refusal; running out of memory has none
 abbrev pub IsCause : Diagram → CommitFault → Type 0
 IsCause diagram (Clash by prop held derived) = IsClash diagram by prop held derived
 IsCause diagram (NotWhole block value) = IsNotWhole diagram block value

@@ -15,11 +15,11 @@ pub record IsCommitted (old new : State) : Type 0 where
   pub settles : Settles old.diagram values
   pub changed : new ≡ with_values old values
 
--- where some values settle the graph, nothing but memory is wanting
+-- where some values settle the graph, the commit is Ok, unless memory runs out
 abbrev pub OkWhereSettled : Diagram → Result (Unit {0}) CommitFault → Type 0
 OkWhereSettled diagram result = (values : List Pair) → Settles diagram values → IsOk result ⊎ (result ≡ Err Memory)
 
--- where a closed derivation lacks a property, the first one is named, unless memory is wanting
+-- where a closed derivation lacks a property, the first one is named, unless memory runs out
 abbrev pub UnsettledWhereMissing : Diagram → Result (Unit {0}) CommitFault → Type 0
 UnsettledWhereMissing diagram result = (pairs : List Pair) (at : PropAt) → IsClosed diagram pairs → IsFirstMissing pairs (properties diagram.kinds) at
     → (result ≡ Err (Unsettled at)) ⊎ (result ≡ Err Memory)
