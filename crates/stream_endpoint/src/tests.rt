@@ -1,4 +1,6 @@
+use crate::OutState::{Opening, Resyncing, Running};
 use crate::{Arrived, Count, Fault, Faults, Flow, Gap, InEnd, OutEnd, OutState, Policy};
+use chdr_words::StatusCode::{Okay, SeqErr};
 use chdr_words::{CmdOp, Command, Epid, Status, StatusCode, Word};
 use rf_base::Copyable;
 use std::process::Abort;
@@ -328,104 +330,20 @@ fn status(code: StatusCode, packets: u8) -> Status {
 /// The state to which a status leads, row by row: the state before, whether a PING waits for an answer,
 /// the code, whether something stays outstanding, and the state behind it.
 const LEADS: [(OutState, bool, StatusCode, bool, OutState); 14] = [
-    (
-        OutState::Opening,
-        false,
-        StatusCode::Okay,
-        false,
-        OutState::Running,
-    ),
-    (
-        OutState::Opening,
-        false,
-        StatusCode::SeqErr,
-        false,
-        OutState::Opening,
-    ),
-    (
-        OutState::Running,
-        false,
-        StatusCode::Okay,
-        false,
-        OutState::Running,
-    ),
-    (
-        OutState::Running,
-        false,
-        StatusCode::Okay,
-        true,
-        OutState::Running,
-    ),
-    (
-        OutState::Running,
-        true,
-        StatusCode::Okay,
-        false,
-        OutState::Running,
-    ),
-    (
-        OutState::Running,
-        true,
-        StatusCode::Okay,
-        true,
-        OutState::Resyncing,
-    ),
-    (
-        OutState::Running,
-        false,
-        StatusCode::SeqErr,
-        false,
-        OutState::Resyncing,
-    ),
-    (
-        OutState::Running,
-        false,
-        StatusCode::SeqErr,
-        true,
-        OutState::Resyncing,
-    ),
-    (
-        OutState::Running,
-        true,
-        StatusCode::SeqErr,
-        false,
-        OutState::Resyncing,
-    ),
-    (
-        OutState::Running,
-        true,
-        StatusCode::SeqErr,
-        true,
-        OutState::Resyncing,
-    ),
-    (
-        OutState::Resyncing,
-        false,
-        StatusCode::Okay,
-        false,
-        OutState::Running,
-    ),
-    (
-        OutState::Resyncing,
-        false,
-        StatusCode::Okay,
-        true,
-        OutState::Running,
-    ),
-    (
-        OutState::Resyncing,
-        false,
-        StatusCode::SeqErr,
-        false,
-        OutState::Resyncing,
-    ),
-    (
-        OutState::Resyncing,
-        false,
-        StatusCode::SeqErr,
-        true,
-        OutState::Resyncing,
-    ),
+    (Opening, false, Okay, false, Running),
+    (Opening, false, SeqErr, false, Opening),
+    (Running, false, Okay, false, Running),
+    (Running, false, Okay, true, Running),
+    (Running, true, Okay, false, Running),
+    (Running, true, Okay, true, Resyncing),
+    (Running, false, SeqErr, false, Resyncing),
+    (Running, false, SeqErr, true, Resyncing),
+    (Running, true, SeqErr, false, Resyncing),
+    (Running, true, SeqErr, true, Resyncing),
+    (Resyncing, false, Okay, false, Running),
+    (Resyncing, false, Okay, true, Running),
+    (Resyncing, false, SeqErr, false, Resyncing),
+    (Resyncing, false, SeqErr, true, Resyncing),
 ];
 
 #[test]
