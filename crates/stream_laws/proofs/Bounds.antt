@@ -1,5 +1,5 @@
 -- Counts in each state that a legal run leaves: known, outstanding, buffered and taken, from the invariant.
-use Rattle.std.proofs.Common.{◌≡◌, ℕ, ◌+◌, ◌-◌, ◌≤◌, Bool, true, false, Option, None, Some, List, [], ◌∷◌, length, take, drop, refl, sym, ap, subst, arith, length-drop}
+use Rattle.std.proofs.Common.{◌≡◌, ◌+◌, ◌-◌, Bool, true, false, drop, refl, ap, subst, arith, length-drop}
 use Rattle.std.proofs.lemmas.List.{length-take-le}
 use Rattle.chdr_words.specs.declared.command.CmdOp.{CmdOp}
 use Rattle.chdr_words.specs.declared.command.CmdOp.TheVariants.{Init, Ping, Resync, Other}
@@ -9,12 +9,12 @@ use Rattle.stream_endpoint.specs.declared.count.Count.{Count}
 use Rattle.stream_endpoint.specs.declared.flow.Policy.{Policy}
 use Rattle.stream_endpoint.specs.declared.state.OutState.{OutState}
 use Rattle.stream_endpoint.specs.declared.state.OutState.TheVariants.{Opening, Running, Halted, Resyncing}
-use Rattle.stream_endpoint.specs.Counts.{minus, plus, spelled_minus}
+use Rattle.stream_endpoint.specs.Counts.{spelled_minus}
 use Rattle.stream_endpoint.specs.InEnd.{code_by}
 use Rattle.stream_endpoint.specs.Receiver.{transferred}
-use Rattle.stream_endpoint.specs.Sender.{Sender, after_code, after_gap, after_okay, commands, hears_left, known}
-use Rattle.stream_laws.specs.Machine.{State, Terms, count_of}
-use Rattle.stream_laws.specs.Acts.{Act, Allowed, after, Fill, Close, Enter, Order, Keep, Break, Discard, Obey, Renew, Take, Report, Hear, LosePacket, LoseCommand, LoseStatus}
+use Rattle.stream_endpoint.specs.Sender.{Sender, after_code, after_gap, after_okay, commands, known}
+use Rattle.stream_laws.specs.Machine.{State, Terms}
+use Rattle.stream_laws.specs.Acts.{after, Fill, Close, Enter, Order, Keep, Break, Discard, Obey, Renew, Take, Report, Hear, LosePacket, LoseCommand, LoseStatus}
 use Rattle.stream_laws.specs.Bounds.{IsHeld, IsKnown, OnlyEntersRaise, TakesOfBuffered}
 use Rattle.stream_laws.specs.Chains.{bytes_told, packets_told}
 use Rattle.stream_laws.specs.Invariant.{Rising}

@@ -1,20 +1,20 @@
-pub mod Chains
-pub mod Numbers
-pub mod Places
-pub mod TalkForward
-pub mod TalkBack
-pub mod TalkHear
-pub mod Marks
-pub mod StepsAhead
-pub mod StepsSender
-pub mod StepsBack
-pub mod StepsHear
-pub mod Steps
-pub mod Consequences
-pub mod Worked
-pub mod Ending
-pub mod Falling
-pub mod FallingHear
-pub mod Bounds
-pub mod Runs
+mod Chains
+mod Numbers
+mod Places
+mod TalkForward
+mod TalkBack
+mod TalkHear
+mod Marks
+mod StepsAhead
+mod StepsSender
+mod StepsBack
+mod StepsHear
+mod Steps
+mod Consequences
+mod Worked
+mod Ending
+mod Falling
+mod FallingHear
+mod Bounds
+mod Runs
 pub mod Laws

@@ -1,13 +1,13 @@
 -- What was sent and is ready is what was made, for any list of acts; and each test tells its condition.
-use Rattle.std.proofs.Common.{◌≡◌, ◌↔◌, ◌⊎◌, inl, inr, IsTrue, ℕ, Bool, true, false, not, ◌&&◌, ◌==◌, Option, List, [], ◌∷◌, ◌++◌, length, append-nil, append_assoc, refl, sym, ◌∙◌, ap, subst, arith, eq-eqb, eqb-true}
+use Rattle.std.proofs.Common.{◌≡◌, ◌⊎◌, inl, inr, IsTrue, ℕ, Bool, true, false, not, ◌&&◌, ◌==◌, List, [], ◌∷◌, ◌++◌, length, append-nil, append_assoc, refl, sym, ◌∙◌, ap, eq-eqb, eqb-true}
 use Rattle.chdr_words.specs.declared.command.CmdOp.{CmdOp}
 use Rattle.chdr_words.specs.declared.command.CmdOp.TheVariants.{Init, Ping, Resync, Other}
 use Rattle.stream_endpoint.specs.Orders.{MayOrder as MayOrderWhen}
 use Rattle.stream_endpoint.specs.Receiver.{is_due}
 use Rattle.stream_endpoint.specs.Sender.{Sender}
 use Rattle.stream_endpoint.proofs.Laws.{order_is_tested as order_is_tested_when, stuck_is_tested as stuck_is_tested_at}
-use Rattle.stream_laws.specs.Machine.{Entry, Load, State, Terms, Told}
-use Rattle.stream_laws.specs.Acts.{Act, Allowed, IsLegal, IsQuiet, IsStuck, after, after_all, is_empty, is_quiet, is_stuck, next_wire, Fill, Close, Enter, Order, Keep, Break, Discard, Obey, Renew, Take, Report, Hear, LosePacket, LoseCommand, LoseStatus}
+use Rattle.stream_laws.specs.Machine.{Load, State, Terms}
+use Rattle.stream_laws.specs.Acts.{Act, Allowed, after, is_empty, is_quiet, is_stuck, next_wire, Fill, Close, Enter, Order, Keep, Break, Discard, Obey, Renew, Take, Report, Hear, LosePacket, LoseCommand, LoseStatus}
 use Rattle.stream_laws.specs.Runs.{OrderIsTested, QuietIsTested, SendsWhatWasMade, StuckIsTested, made, made_by}
 
 -- sent and ready, end to end

@@ -1,6 +1,5 @@
 -- Laws of counts: what is known, outstanding, buffered and taken in each state that a legal run leaves.
 use Rattle.std.specs.Prelude.{◌≡◌, ℕ, ◌+◌, ◌≤◌, Bool, true, false, length, take, drop}
-use Rattle.stream_endpoint.specs.declared.count.Count.{Count}
 use Rattle.stream_endpoint.specs.Counts.{plus}
 use Rattle.stream_endpoint.specs.Sender.{known}
 use Rattle.stream_laws.specs.Machine.{State, Terms, count_of}
