@@ -2,7 +2,7 @@
 use Rattle.std.specs.Prelude.{◌≡◌, ◌≢◌, ℕ, zero, suc, ◌+◌, ◌*◌, ◌<◌, ◌≤◌, ◌^◌, ◌||◌, Bool, false, IsTrue, IsSome, is_some, List, length, Option, Some, slice_get, if◌then◌else◌}
 use Rattle.std.specs.List.{list_any}
 use Rattle.std.specs.Option.{option_map_or}
-use Rattle.block_library.specs.Blocks.{FitsKind, inputs}
+use Rattle.block_library.specs.Blocks.{FitsKind, inputs, outputs}
 use Rattle.block_library.specs.Producer.{FitsPlan}
 use Rattle.block_library.specs.declared.kind.BlockKind.{BlockKind}
 use Rattle.block_library.specs.declared.kind.BlockKind.TheVariants.{Tx, Rx, Fifo, Split, Keep, Repeat, Replay, Switch, Sink}
@@ -26,18 +26,6 @@ EachStream plan P = (s : ℕ) → s < length plan.streams → P s
 -- each block has the property, by its number
 abbrev pub EachBlock : RunPlan → (ℕ → Type 0) → Type 0
 EachBlock plan P = (b : ℕ) → b < length plan.blocks → P b
-
--- how many outputs a kind has
-abbrev pub outputs : BlockKind → ℕ
-outputs Tx = 1
-outputs Rx = 0
-outputs Fifo = 1
-outputs Split = 2
-outputs (Keep n) = 1
-outputs (Repeat n) = 1
-outputs (Replay n) = 1
-outputs (Switch n) = 1
-outputs Sink = 0
 
 -- the EPID of input i of block b
 abbrev pub input_at : RunPlan → ℕ → ℕ → Option Epid

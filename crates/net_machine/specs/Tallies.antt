@@ -1,5 +1,7 @@
 -- How streams end, what they did, and the most that was outstanding on the way.
 use Rattle.std.specs.Prelude.{ℕ, ◌+◌, ◌-◌, List, [], ◌∷◌, length, Option, None, Some, if◌then◌else◌}
+use Rattle.block_library.specs.Lines.{line_of}
+use Rattle.block_library.specs.declared.line.Line.{Line}
 use Rattle.chdr_packets.specs.declared.packet.Packet.{Packet}
 use Rattle.stream_endpoint.specs.Sender.{known}
 use Rattle.stream_endpoint.specs.declared.count.Count.{Count}
@@ -61,3 +63,7 @@ tally_over w moves s = tally_with (peak_over s w moves) (after_all w moves) s
 -- the packets that block b took at its first input: all that an Rx or a sink has
 abbrev pub taken_by : State → ℕ → List Packet
 taken_by w b = fed_to w (block_at w.plan b) 0
+
+-- the line of block b, of what it took at its first input
+abbrev pub line_at : State → ℕ → Line
+line_at w b = line_of b (block_at w.plan b).item (taken_by w b)

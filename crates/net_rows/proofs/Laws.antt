@@ -1,6 +1,8 @@
 -- The worked runs, computed.
 use Rattle.std.proofs.Common.{refl}
+use Rattle.chdr_words.specs.Field.{half_at}
 use Rattle.block_library.specs.Blocks.{block_of, groups, kept_packets, open_group, repeated_packet, replayed_group}
+use Rattle.block_library.specs.Lines.{first_of, last_of}
 use Rattle.block_library.specs.Memory.{gives, kept_of}
 use Rattle.block_library.specs.Producer.{packet_of, produced}
 use Rattle.block_registers.specs.Operations.{accepted, accepts, acknowledgement, outcome, registers_after}
@@ -18,24 +20,25 @@ use Rattle.net_rows.specs.Losses.{AreLosses}
 use Rattle.net_rows.specs.Numbers.{AreNumbers}
 
 pub journal : IsJournal
-unfolding may after after_all next_of seed_of enabled_list IsChosen produced packet_of
+unfolding may after after_all next_of seed_of enabled_list IsChosen produced packet_of first_of last_of half_at
 journal = record {
   chosen = (refl, (refl, (refl, (refl, (refl, (refl, (refl, (refl, (refl, (refl, (refl, (refl, (refl, (refl, (refl, (refl, (refl, (refl, (refl, (refl, (refl, (refl, (refl, (refl, refl))))))))))))))))))))))));
   ended = record { still = refl; ended = refl; has_sent = refl; has_delivered = refl; has_acked = refl; has_epochs = refl };
+  line = refl;
 }
 
 pub credit : IsWithinCapacity
-unfolding may after next_of enabled_list produced packet_of
+unfolding may after next_of enabled_list produced packet_of first_of last_of half_at
 credit = record {
   ended = record { still = refl; ended = refl; has_sent = refl; has_delivered = refl; has_acked = refl; has_epochs = refl };
   bytes = refl;
   packets = refl;
   taken = refl;
-  samples = refl;
+  line = refl;
 }
 
 pub numbers : AreNumbers
-unfolding may after next_of enabled_list produced packet_of
+unfolding may after next_of enabled_list produced packet_of first_of last_of half_at
 numbers = record {
   short = record { still = refl; ended = refl; has_sent = refl; has_delivered = refl; has_acked = refl; has_epochs = refl };
   short_numbers = refl;
@@ -44,26 +47,30 @@ numbers = record {
 }
 
 pub losses : AreLosses
-unfolding may after next_of enabled_list produced packet_of
+unfolding may after next_of enabled_list produced packet_of first_of last_of half_at
 losses = record {
   off = record { still = refl; ended = refl; has_sent = refl; has_delivered = refl; has_acked = refl; has_epochs = refl };
-  off_taken = refl;
+  off_line = refl;
   auto = record { still = refl; ended = refl; has_sent = refl; has_delivered = refl; has_acked = refl; has_epochs = refl };
-  auto_taken = refl;
+  auto_line = refl;
   last = record { still = refl; ended = refl; has_sent = refl; has_delivered = refl; has_acked = refl; has_epochs = refl };
+  last_line = refl;
   init = record { still = refl; ended = refl; has_sent = refl; has_delivered = refl; has_acked = refl; has_epochs = refl };
   status = record { still = refl; ended = refl; has_sent = refl; has_delivered = refl; has_acked = refl; has_epochs = refl };
   wraps = record { still = refl; ended = refl; has_sent = refl; has_delivered = refl; has_acked = refl; has_epochs = refl };
 }
 
 pub blocks : ArePassedOn
-unfolding may after next_of enabled_list produced packet_of gives kept_of block_of groups kept_packets open_group repeated_packet replayed_group
+unfolding may after next_of enabled_list produced packet_of gives kept_of block_of groups kept_packets open_group repeated_packet replayed_group first_of last_of half_at accepted accepts acknowledgement outcome place_of slots_after
 blocks = record {
-  repeat = record { first = refl; second = refl; count = refl; samples = refl; plain = refl };
-  replay = record { first = refl; second = refl; count = refl; samples = refl; plain = refl };
-  keep = record { first = refl; second = refl; count = refl; samples = refl; plain = refl };
-  fifo = record { first = refl; second = refl; count = refl; samples = refl; plain = refl };
-  registers = refl;
+  repeat = record { first = refl; second = refl; samples = refl; has_line = refl; plain = refl };
+  replay = record { first = refl; second = refl; samples = refl; has_line = refl; plain = refl };
+  keep = record { first = refl; second = refl; samples = refl; has_line = refl; plain = refl };
+  fifo = record { first = refl; second = refl; samples = refl; has_line = refl; plain = refl };
+  kind = refl;
+  number = refl;
+  fed = refl;
+  given = refl;
 }
 
 pub hosts : AreTransactions

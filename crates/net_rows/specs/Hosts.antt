@@ -125,8 +125,12 @@ reply_by (body.Command command) = Else
 reply_by (body.Control control) = Acknowledged control.status control.words
 reply_by (body.Management m) = Returned m.hops
 
+-- what came to host x
+abbrev pub replies_at : ℕ → State → List Reply
+replies_at x w = map (λ (p : Packet). reply_by p.body) (node_at w x).answers
+
 abbrev pub replies : State → List Reply
-replies w = map (λ (p : Packet). reply_by p.body) (node_at w 0).answers
+replies w = replies_at 0 w
 
 -- the state after each probe of a walk
 abbrev pub found_crossbar : State

@@ -1,5 +1,5 @@
 -- Three packets of two samples from host 1 over a crossbar to host 2: the events of one thread.
-use Rattle.std.specs.Prelude.{List, [], ◌∷◌}
+use Rattle.std.specs.Prelude.{◌≡◌, List, [], ◌∷◌}
 use Rattle.chdr_words.specs.declared.command.CmdOp.TheVariants.{Init, Ping}
 use Rattle.stream_endpoint.specs.declared.flow.Policy.TheVariants.{Auto}
 use Rattle.net_machine.specs.declared.event.Event.{Event}
@@ -8,7 +8,8 @@ use Rattle.net_machine.specs.declared.tally.StreamEnd.TheVariants.{Drained}
 use Rattle.net_machine.specs.Choice.{IsChosen}
 use Rattle.net_machine.specs.Moves.{after_journal}
 use Rattle.net_machine.specs.State.{State}
-use Rattle.net_rows.specs.Networks.{Ended, begun_on_line, one_stream, stream, usual}
+use Rattle.net_machine.specs.Tallies.{line_at}
+use Rattle.net_rows.specs.Networks.{Ended, begun_on_line, line_is, one_stream, stream, usual}
 
 abbrev pub opening : State
 opening = begun_on_line (one_stream (stream usual 0 Auto) 3 2 [])
@@ -22,3 +23,4 @@ journal = Command 0 Init ∷ Hop 0 ∷ Hop 4 ∷ Report 0 ∷ Hop 7 ∷ Hop 3
 pub record IsJournal : Type 0 where
   pub chosen : IsChosen 0 opening journal
   pub ended : Ended (after_journal opening journal) 0 Drained 3 3 3 1
+  pub line : line_at (after_journal opening journal) 1 ≡ line_is 1 3 6 0 5

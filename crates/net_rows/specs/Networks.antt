@@ -1,6 +1,7 @@
 -- A network of two hosts and a crossbar, a run on it, and how one thread performs it.
-use Rattle.std.specs.Prelude.{◌≡◌, ℕ, zero, suc, true, List, [], ◌∷◌, None}
+use Rattle.std.specs.Prelude.{◌≡◌, ℕ, zero, suc, true, List, [], ◌∷◌, None, Some}
 use Rattle.std.specs.Option.{option_map_or}
+use Rattle.block_library.specs.declared.line.Line.{Line}
 use Rattle.block_library.specs.declared.kind.BlockKind.TheVariants.{Tx, Rx}
 use Rattle.chdr_words.specs.declared.epid.Epid.{Epid}
 use Rattle.net_topology.specs.declared.plan.NodePlan.TheVariants.{Crossbar, Host}
@@ -67,3 +68,8 @@ pub record Ended (w : State) (s : ℕ) (end : StreamEnd) (sent delivered acked e
   pub has_delivered : (tally_of w s).delivered ≡ delivered
   pub has_acked : (tally_of w s).acked ≡ acked
   pub has_epochs : (tally_of w s).epochs ≡ epochs
+
+-- what a block took: so many packets and samples, the first and the last sample
+abbrev pub line_is : ℕ → ℕ → ℕ → ℕ → ℕ → Line
+line_is block packets samples first last =
+    record { block = block; packets = packets; samples = samples; first = Some first; last = Some last }

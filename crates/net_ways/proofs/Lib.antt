@@ -1,0 +1,11 @@
+mod Gathering
+mod Leading
+mod Moving
+mod Coming
+mod Following
+mod Clearing
+mod Blindness
+mod Entering
+mod Placing
+mod Staying
+pub mod Laws

@@ -1,0 +1,7 @@
+pub mod Gather
+pub mod Ways
+pub mod Clear
+pub mod Hops
+pub mod Unseen
+pub mod Entering
+pub mod Standing
