@@ -74,14 +74,23 @@ fn a_packet_is_whole(rt: HostRuntime) -> Result<(), Fail> {
 
 #[test]
 fn faults_say_their_reason_and_place(rt: HostRuntime) -> Result<(), Fail> {
-    assert_eq!(rt; format!(in rt.alloc(); "{BAD_AT_16}")?.as_str(), "BadLength at 16");
+    assert_eq!(rt;
+        format!(in rt.alloc(); "{BAD_AT_16}")?.as_str(),
+        "BadLength at 16"
+    );
     let message = StreamFault::Bad {
         at: 8,
         fault: PacketFault::Message(MsgFault::BadManagement),
     };
-    assert_eq!(rt; format!(in rt.alloc(); "{message}")?.as_str(), "BadManagement at 8");
+    assert_eq!(rt;
+        format!(in rt.alloc(); "{message}")?.as_str(),
+        "BadManagement at 8"
+    );
     let cut = FinishFault::Truncated { at: 24 };
-    assert_eq!(rt; format!(in rt.alloc(); "{cut}")?.as_str(), "Truncated at 24");
+    assert_eq!(rt;
+        format!(in rt.alloc(); "{cut}")?.as_str(),
+        "Truncated at 24"
+    );
     Ok(())
 }
 
