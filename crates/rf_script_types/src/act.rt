@@ -13,11 +13,7 @@ pub struct Due {
 #[derive(Debug, Drop, PartialEq, Eq)]
 pub enum Act {
     /// A host sends the request to `to`, and waits for the acknowledgement.
-    Control {
-        at: Due,
-        to: Epid,
-        request: Control,
-    },
+    Control { at: Due, to: Epid, request: Control },
     /// The bank is taken out and dropped.
     Unload { at: Due, port: u16 },
     /// The bank of one port goes to another.

@@ -29,7 +29,10 @@ pub enum ScriptCommand {
         limit: u32,
     },
     /// The host walks the network.
-    Discover { host: Epid, lose: Faults },
+    Discover {
+        host: Epid,
+        lose: Faults,
+    },
     /// The host writes the way from an endpoint to another into the tables.
     Route {
         host: Epid,
@@ -49,7 +52,9 @@ pub enum ScriptCommand {
         lose: Faults,
     },
     /// The bank of a port is taken out and dropped.
-    Unload { port: u16 },
+    Unload {
+        port: u16,
+    },
     /// A block of the graph, on its endpoints.
     Block {
         kind: BlockKind,
@@ -70,7 +75,10 @@ pub enum ScriptCommand {
         policy: Policy,
     },
     /// A user's value of a property.
-    Set { at: PropAt, value: u64 },
+    Set {
+        at: PropAt,
+        value: u64,
+    },
     Commit,
     /// A run of all streams.
     Run {
@@ -80,7 +88,11 @@ pub enum ScriptCommand {
         lose: Faults,
     },
     /// A run over two devices, which link `cut` joins; of version 2.
-    Twin { cut: u16, peak: bool, lose: Faults },
+    Twin {
+        cut: u16,
+        peak: bool,
+        lose: Faults,
+    },
     /// A run beside which a host acts; of version 2.
     Duplex {
         host: Epid,
