@@ -1,6 +1,6 @@
 use crate::{
-    CountList, Failed, MemSink, MemSource, ReadAllFault, Sink, Source, StdSink, StdSource,
-    SureSink, SureSource, read_all, write_all,
+    CountList, Failed, MemSink, MemSource, ReadAllFault, Sink, Source, StdSink, StdSource, Stop,
+    SureSink, SureSource, Text, read_all, write_all,
 };
 use rf_base::{Bytes, Items, Memory};
 use std::alloc::Global;
@@ -134,5 +134,36 @@ impl Write for Broken {
 fn an_error_of_std_is_a_failure(rt: HostRuntime) -> Result<(), Fail> {
     assert_eq!(rt; StdSource::new(Broken).read(&mut [0u8; 4]), Err(Failed));
     assert_eq!(rt; StdSink::new(Broken).write(b"abc"), Err(Failed));
+    Ok(())
+}
+
+#[test]
+fn text_is_put_together_and_emptied(rt: HostRuntime) -> Result<(), Fail> {
+    let mut text = Text::new(rt.alloc());
+    text.put_pair(b"cap ", 4096, b"/", u64::MAX)?;
+    text.put(b"\n")?;
+    assert_eq!(rt;
+        text.as_bytes(),
+        b"cap 4096/18446744073709551615\n".as_slice()
+    );
+    text.clear();
+    text.put_field(b"at ", 0)?;
+    assert_eq!(rt; text.as_bytes(), b"at 0".as_slice());
+    Ok(())
+}
+
+#[test]
+fn faults_say_themselves(rt: HostRuntime) -> Result<(), Fail> {
+    let stops = format!(in rt.alloc(); "{}, {}, {}", Stop::Read, Stop::Write, Stop::Memory)?;
+    assert_eq!(rt;
+        stops.as_str(),
+        "a read failed, a write failed, out of memory"
+    );
+    let long = ReadAllFault::TooLong;
+    let faults = format!(in rt.alloc(); "{long}; {Failed}")?;
+    assert_eq!(rt;
+        faults.as_str(),
+        "more bytes came than the limit allows; a read or a write failed"
+    );
     Ok(())
 }
