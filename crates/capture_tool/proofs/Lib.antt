@@ -1,4 +1,4 @@
-pub mod ScanLemmas
-pub mod LookLemmas
-pub mod PageLemmas
-pub mod NextLemmas
+pub mod Streams
+pub mod FollowLemmas
+pub mod ReaderLemmas
+pub mod OutcomeLemmas

@@ -2,5 +2,5 @@ pub mod Seen
 pub mod Text
 pub mod Names
 pub mod Listing
-pub mod Page
+pub mod Follows
 pub mod Outcome

@@ -3,9 +3,8 @@
 
 mod check;
 mod line;
-mod list;
 mod names;
-mod scan;
+mod packets;
 mod seen;
 mod show;
 mod text;

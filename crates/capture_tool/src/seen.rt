@@ -1,29 +1,36 @@
 ghost use Rattle.std.specs.Prelude.{◌≡◌};
 ghost use Rattle.capture_tool.specs.Outcome.{status_of};
 ghost use Rattle.capture_tool.specs.Seen.{why_of};
-ghost use Rattle.capture_tool.specs.declared.seen.Stop.TheVariants as stops;
 
 use chdr_packets::PacketFault;
 use chdr_words::MsgFault;
-use rf_base::Memory;
-use std::alloc::AllocError;
+use thiserror::Error;
 
 /// Why a capture ends before its bytes do.
-#[derive(Clone, Copy, Debug, PartialEq, Eq)]
+#[derive(Clone, Copy, Debug, PartialEq, Eq, Error)]
 pub enum Why {
+    #[error("ReservedType")]
     ReservedType,
+    #[error("BadLength")]
     BadLength,
+    #[error("Truncated")]
     Truncated,
+    #[error("BadStatusLength")]
     BadStatusLength,
+    #[error("BadCommandLength")]
     BadCommandLength,
+    #[error("BadControlLength")]
     BadControlLength,
+    #[error("BadManagement")]
     BadManagement,
     /// It goes on past 2^30 bytes.
+    #[error("TooLong")]
     TooLong,
 }
 
 /// The first fault of a capture and the byte at which it stands.
-#[derive(Clone, Copy, Debug, PartialEq, Eq)]
+#[derive(Clone, Copy, Debug, PartialEq, Eq, Error)]
+#[error("fault {why} at {at}")]
 pub struct Fault {
     pub at: u64,
     pub why: Why,
@@ -43,31 +50,7 @@ pub struct Seen {
     pub fault: Option<Fault>,
 }
 
-/// Why a capture wasn't read, or its text not written.
-#[derive(Clone, Copy, Debug, PartialEq, Eq)]
-pub enum Stop {
-    Read,
-    Write,
-    Memory,
-}
-
-impl From<Memory> for Stop {
-    ghost from_gives = { λ _ e. e ≡ stops.Memory };
-
-    fn from(_: Memory) -> Stop {
-        Stop::Memory
-    }
-}
-
-impl From<AllocError> for Stop {
-    ghost from_gives = { λ _ e. e ≡ stops.Memory };
-
-    fn from(_: AllocError) -> Stop {
-        Stop::Memory
-    }
-}
-
-/// The status of a capture that was told whole.
+/// The status of a capture whose text was written.
 pub fn status_of(fault: Option<Fault>) -> u8
     ensures { result ≡ status_of fault }
 {
@@ -77,7 +60,7 @@ pub fn status_of(fault: Option<Fault>) -> u8
     }
 }
 
-/// The reason of a packet's fault; reading never finds want of memory.
+/// The reason of a packet's fault; reading never finds that memory ran out.
 pub fn why_of(fault: PacketFault) -> Why
     ensures { result ≡ why_of fault }
 {

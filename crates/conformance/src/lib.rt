@@ -11,4 +11,6 @@ pub use vectors::{
 };
 
 #[cfg(test)]
+mod capture_tests;
+#[cfg(test)]
 mod tests;
