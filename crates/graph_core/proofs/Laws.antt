@@ -3,4 +3,4 @@ pub use Rattle.graph_core.proofs.Derived.{closed_is_unique, included, none_in, o
 pub use Rattle.graph_core.proofs.Graphs.{few_edges}
 pub use Rattle.graph_core.proofs.Places.{two_ports}
 pub use Rattle.graph_core.proofs.Ranks.{chains_are_short}
-pub use Rattle.graph_core.proofs.Settled.{edges_agree, blocks_agree, items_are_set, settling_is_unique}
+pub use Rattle.graph_core.proofs.Settled.{edges_agree, edges_show, blocks_agree, items_are_set, settling_is_unique}

@@ -1,13 +1,12 @@
 -- In a graph without cycles each block has a number that falls along the edges.
-use Rattle.std.proofs.Common.{◌≡◌, ◌∙◌, ℕ, zero, suc, ◌+◌, ◌<◌, ◌≤◌, ◌⊎◌, inl, inr, ⊎_elim, refl, sym, ap, subst, List, [], ◌∷◌, ◌++◌, Contains, cond, true, false, Bool, arith, length, get_or, All}
-use Rattle.std.specs.List.{range_with_len, count_by}
+use Rattle.std.proofs.Common.{◌≡◌, ℕ, zero, suc, ◌+◌, ◌<◌, ◌≤◌, ◌⊎◌, inl, inr, ⊎_elim, refl, sym, ap, subst, List, [], ◌∷◌, true, false, Bool, arith, length, get_or}
 use Rattle.std.proofs.lemmas.Bool.{cases_eq}
 use Rattle.std.proofs.lemmas.List.Elements.{All-contains}
 use Rattle.graph_core.specs.declared.place.Edge.{Edge}
-use Rattle.graph_core.specs.Edges.{Reaches, IsAcyclic}
+use Rattle.graph_core.specs.Edges.{Reaches}
 use Rattle.graph_core.specs.Edges.Reaches.{here, along}
 use Rattle.graph_core.specs.Reach.{HasEndsBelow}
-use Rattle.graph_core.specs.Settled.{FallsAlong, ChainsAreShort}
+use Rattle.graph_core.specs.Settled.{ChainsAreShort}
 
 joined : (edges : List Edge) {a b c : ℕ} → Reaches edges a b → Reaches edges b c → Reaches edges a c
 joined edges here more = more

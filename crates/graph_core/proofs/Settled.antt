@@ -1,5 +1,5 @@
 -- What follows from values that settle a graph.
-use Rattle.std.proofs.Common.{◌≡◌, ◌≢◌, ◌∙◌, ℕ, zero, suc, ◌+◌, ◌<◌, ◌≤◌, ◌⊎◌, inl, inr, ⊎_elim, refl, sym, ap, subst, List, [], ◌∷◌, ◌++◌, Contains, Option, Some, None, cond, true, false, Bool, eqb, eq-eqb, ◌&&◌, arith, length, get_or, unwrap_or}
+use Rattle.std.proofs.Common.{◌≡◌, ◌≢◌, ◌∙◌, ℕ, zero, suc, ◌<◌, ⊎_elim, refl, sym, ap, subst, List, [], ◌∷◌, Contains, Option, Some, None, cond, true, false, Bool, eq-eqb, arith, length, get_or, unwrap_or}
 use Rattle.std.specs.Prelude.{slice_get}
 use Rattle.std.specs.Option.{option_map_or}
 use Rattle.std.specs.Map.{lookup}
@@ -14,11 +14,11 @@ use Rattle.graph_core.specs.declared.place.PropAt.{PropAt}
 use Rattle.graph_core.specs.declared.place.Edge.{Edge}
 use Rattle.graph_core.specs.declared.place.Rule.{Rule}
 use Rattle.graph_core.specs.declared.place.Rule.TheVariants.{Edge as edge_rule, Block as block_rule}
-use Rattle.graph_core.specs.Derivation.{Diagram, IsDerivation, IsClosed, Settles, EdgeGives, BlockGives, Gives, property_at, across, other_end, is_at, carried}
+use Rattle.graph_core.specs.Derivation.{Diagram, EdgeGives, BlockGives, Gives, property_at, across, other_end, is_at, carried}
 use Rattle.graph_core.specs.Derivation.IsDerivation.{none, set, given}
-use Rattle.graph_core.specs.Pairs.{Pair, Lacks, value_of, is_same}
-use Rattle.graph_core.specs.Ports.{IsProperty, port_count, ports_at}
-use Rattle.graph_core.specs.Settled.{EdgesAgree, BlocksAgree, ItemsAreSet, SettlingIsUnique}
+use Rattle.graph_core.specs.Pairs.{Pair, value_of, is_same}
+use Rattle.graph_core.specs.Ports.{port_count, ports_at}
+use Rattle.graph_core.specs.Settled.{EdgesAgree, EdgesShowTheSame, BlocksAgree, ItemsAreSet, SettlingIsUnique}
 use Rattle.graph_core.proofs.Derived.{included, none_in, one_value, pushed_pair}
 use Rattle.graph_core.proofs.Keys.{same_key, key_laws}
 
@@ -185,3 +185,32 @@ settling_is_unique diagram one other a b = (
       (included diagram one other a.closed.derivation b.closed)
       (included diagram other one b.closed.derivation a.closed),
 )
+
+across-into : (edge : Edge) (prop : Prop) → across edge (property_at Into edge.to prop) ≡ Some (property_at Out edge.from prop)
+across-into edge prop =
+    ap (λ b. cond b (Some (property_at Out edge.from prop)) None) (at-itself edge.to Into prop)
+
+pub edges_show : EdgesShowTheSame
+unfolding value_of
+edges_show diagram pairs closed edge there prop =
+    by (lookup (is_same (property_at Out edge.from prop)) pairs) (lookup (is_same (property_at Into edge.to prop)) pairs) refl refl
+  where
+    by : (r s : Option ℕ) → lookup (is_same (property_at Out edge.from prop)) pairs ≡ r → lookup (is_same (property_at Into edge.to prop)) pairs ≡ s →
+        lookup (is_same (property_at Out edge.from prop)) pairs ≡ lookup (is_same (property_at Into edge.to prop)) pairs
+    by None None e f = e ∙ sym f
+    by (Some v) s e f =
+        let o : PropAt = property_at Out edge.from prop in
+        let i : PropAt = property_at Into edge.to prop in
+        let stands = get-place diagram.edges there.0 edge there.1 there.2 in
+        let gives : EdgeGives diagram there.0 o v i (Some v) =
+        record { edge = edge; stands = stands; joins = across-out edge prop; equal = refl } in
+        let has : Contains pairs (i, v) = (closed.spread o v (Contains-from_lookup same_key o v pairs e)).given (edge_rule there.0) i v gives in
+        e ∙ sym (found-is pairs i v (one_value diagram pairs closed.derivation i) has)
+    by None (Some v) e f =
+        let o : PropAt = property_at Out edge.from prop in
+        let i : PropAt = property_at Into edge.to prop in
+        let stands = get-place diagram.edges there.0 edge there.1 there.2 in
+        let gives : EdgeGives diagram there.0 i v o (Some v) =
+        record { edge = edge; stands = stands; joins = across-into edge prop; equal = refl } in
+        let has : Contains pairs (o, v) = (closed.spread i v (Contains-from_lookup same_key i v pairs f)).given (edge_rule there.0) o v gives in
+        absurd (not-missed pairs o v has e)

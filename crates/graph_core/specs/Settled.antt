@@ -1,5 +1,5 @@
 -- What holds of values that settle a graph, and of a graph without cycles.
-use Rattle.std.specs.Prelude.{◌≡◌, ◌≢◌, ℕ, ◌<◌, ◌≤◌, List, Contains, All, length}
+use Rattle.std.specs.Prelude.{◌≡◌, ◌≢◌, ℕ, ◌<◌, ◌≤◌, List, Contains, All}
 use Rattle.graph_core.specs.declared.place.Prop.{Prop}
 use Rattle.graph_core.specs.declared.place.Prop.TheVariants.{Rate}
 use Rattle.graph_core.specs.declared.place.PropAt.{PropAt}
@@ -7,7 +7,7 @@ use Rattle.graph_core.specs.declared.place.Edge.{Edge}
 use Rattle.graph_core.specs.declared.place.Side.TheVariants.{Into, Out}
 use Rattle.graph_core.specs.Derivation.{Diagram, IsDerivation, IsClosed, Settles, property_at}
 use Rattle.graph_core.specs.Edges.{IsAcyclic}
-use Rattle.graph_core.specs.Pairs.{Pair, Holds, value_of}
+use Rattle.graph_core.specs.Pairs.{Pair, value_of}
 use Rattle.graph_core.specs.Ports.{IsProperty}
 use Rattle.graph_core.specs.Reach.{HasEndsBelow}
 
@@ -16,6 +16,12 @@ abbrev pub EdgesAgree : Type 0
 EdgesAgree = (diagram : Diagram) (pairs : List Pair) → IsClosed diagram pairs →
     (edge : Edge) → Contains diagram.edges edge → (prop : Prop) (one other : ℕ) →
     Contains pairs (property_at Out edge.from prop, one) → Contains pairs (property_at Into edge.to prop, other) → one ≡ other
+
+-- so is what is found at both ends
+abbrev pub EdgesShowTheSame : Type 0
+EdgesShowTheSame = (diagram : Diagram) (pairs : List Pair) → IsClosed diagram pairs →
+    (edge : Edge) → Contains diagram.edges edge → (prop : Prop) →
+    value_of pairs (property_at Out edge.from prop) ≡ value_of pairs (property_at Into edge.to prop)
 
 -- item and spp are the same at all ports of a block
 abbrev pub BlocksAgree : Type 0

@@ -1,5 +1,5 @@
 ghost use Rattle.graph_core.specs.Derivation.{ClosedIsUnique};
-ghost use Rattle.graph_core.specs.Settled.{EdgesAgree, BlocksAgree, ItemsAreSet, SettlingIsUnique, ChainsAreShort};
+ghost use Rattle.graph_core.specs.Settled.{EdgesAgree, EdgesShowTheSame, BlocksAgree, ItemsAreSet, SettlingIsUnique, ChainsAreShort};
 
 /// There is at most one closed derivation, up to the order of its pairs; so values that settle a
 /// graph are the same, and the value of each property is.
@@ -12,6 +12,7 @@ pub fn settled_values_are_unique()
 /// same item and spp.
 pub fn settled_values_agree()
     ensures edges { EdgesAgree }
+    ensures found { EdgesShowTheSame }
     ensures blocks { BlocksAgree }
 {}
 
