@@ -1,0 +1,7 @@
+mod Tells
+mod StreamsNow
+mod Places
+mod Feeds
+mod Events
+mod Follows
+pub mod Laws
