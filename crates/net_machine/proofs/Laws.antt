@@ -1,26 +1,21 @@
--- The laws of queues and of the front.
-use Rattle.std.proofs.Common.{◌≡◌, ℕ, List, [], ◌∷◌, map, refl, arith, get_or, zero, suc}
-use Rattle.net_machine.specs.Front.{queued, stream_front}
-use Rattle.net_machine.specs.Laws.{AreFront, AreQueues}
-use Rattle.net_machine.specs.State.{idle}
+-- The laws of specs/Laws, with their proofs, for the proofs of other crates.
+use Rattle.net_machine.specs.Laws as law
+use Rattle.net_machine.proofs.Choosing.{chosen-enabled, nothing-chosen}
+use Rattle.net_machine.proofs.Shaping.{all-shapes, shape-stays}
+use Rattle.net_machine.proofs.Threads.{chosen-whole}
+pub use Rattle.net_machine.proofs.PlaceLemmas.{fronts, queues, runs}
 
-pub queues : AreQueues
-queues = record {
-  link = λ d vc low. omega arith;
-  channel = λ d vc low. omega arith;
-  whole = λ q. omega arith;
-  within = λ tree d vc there low. omega arith;
-  of = λ tree q there. omega arith;
-}
+pub shape_stays : law.ShapeStays
+shape_stays = shape-stays
 
--- a place of a picture is the picture of the place
-get-map : {A B : Type 0} (f : A → B) (xs : List A) (k : ℕ) (d : A) → get_or (map f xs) k (f d) ≡ f (get_or xs k d)
-get-map f [] k d = refl
-get-map f (x ∷ xs) zero d = refl
-get-map f (x ∷ xs) (suc k) d = get-map f xs k d
+pub shapes_stay : law.ShapesStay
+shapes_stay = all-shapes
 
-pub fronts : AreFront
-fronts = record {
-  stream = λ w s. get-map stream_front w.streams s idle;
-  queue = λ w q. get-map (map queued) w.queues q [];
-}
+pub chosen_is_enabled : law.ChosenIsEnabled
+chosen_is_enabled = chosen-enabled
+
+pub nothing_is_chosen : law.NothingIsChosen
+nothing_is_chosen = nothing-chosen
+
+pub chosen_is_whole : law.ChosenIsWhole
+chosen_is_whole = chosen-whole

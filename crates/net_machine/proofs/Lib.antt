@@ -1,1 +1,5 @@
+mod PlaceLemmas
+mod Shaping
+mod Choosing
+mod Threads
 pub mod Laws

@@ -51,6 +51,13 @@ pub record HaveOneForm (plan : RunPlan) (a b : ℕ) : Type 0 where
 abbrev pub KeepsForm : RunPlan → ℕ → Type 0
 KeepsForm plan s = (a b : ℕ) → producer_of plan s ≡ Some a → consumer_of plan s ≡ Some b → HaveOneForm plan a b
 
+-- the numbers of a plan are in their ranges, and both ends of each stream have packets of one form
+pub record FitsRun (plan : RunPlan) : Type 0 where
+  pub blocks : EachBlock plan (λ b. FitsBlock (block_at plan b))
+  pub starts : EachStream plan (λ s. (plan_at plan s).start < 2 ^ 40)
+  pub flows : EachStream plan (λ s. IsValid (plan_at plan s).flow)
+  pub forms : EachStream plan (KeepsForm plan)
+
 -- a node of the sort on which a kind of block stands has this EPID: a host for Tx and Rx, else an endpoint
 abbrev pub stands_at : Plan → BlockKind → Epid → Bool
 stands_at tree kind epid = option_map_or
@@ -139,26 +146,42 @@ bound_through (suc k) plan s = option_map_or (λ b. let block = block_at plan b 
 abbrev pub bound_of : RunPlan → ℕ → ℕ
 bound_of plan s = bound_through (length plan.blocks) plan s
 
--- A network with these tables can run the plan. Behind the ranges of numbers stands one part for each refusal.
+-- no two streams of the plan have an end at one EPID, on the side that tells it
+abbrev pub HaveOwnEnds : RunPlan → (ℕ → Epid) → Type 0
+HaveOwnEnds plan end_at = (s t : ℕ) → s < length plan.streams → t < length plan.streams → end_at s ≡ end_at t → s ≡ t
+
+-- the EPID at which stream s begins, and the one at which it ends
+abbrev pub from_of : RunPlan → ℕ → Epid
+from_of plan s = (plan_at plan s).from
+
+abbrev pub to_of : RunPlan → ℕ → Epid
+to_of plan s = (plan_at plan s).to
+
+-- A network with these tables can run the plan. The first part has the ranges of numbers, and each other one is
+-- the contrary of one refusal.
 pub record CanBegin (tree : Plan) (nodes : List Node) (plan : RunPlan) : Type 0 where
-  pub blocks_fit : EachBlock plan (λ b. FitsBlock (block_at plan b))
-  pub starts_fit : EachStream plan (λ s. (plan_at plan s).start < 2 ^ 40)
-  pub flows_fit : EachStream plan (λ s. IsValid (plan_at plan s).flow)
-  pub forms_fit : EachStream plan (KeepsForm plan)
-  -- TooManyBlocks, NoEndpoint, EndpointTaken
+  pub fits : FitsRun plan
+  -- TooManyBlocks
   pub few_blocks : length plan.blocks ≤ 32
+  -- NoEndpoint
   pub endpoints : EachBlock plan (StandsAt tree plan)
-  pub ins_apart : AreApart (input_at plan)
-  pub outs_apart : AreApart (output_at plan)
-  -- TooManyStreams, BadPort, PortTaken, Cycle, Loop
+  -- EndpointTaken
+  pub endpoints_free : AreApart (input_at plan) × AreApart (output_at plan)
+  -- TooManyStreams
   pub few_streams : length plan.streams ≤ 16
+  -- BadPort
   pub ports : EachStream plan (λ s. IsSome (producer_of plan s) × IsSome (consumer_of plan s))
-  pub froms_apart : (s t : ℕ) → s < length plan.streams → t < length plan.streams → (plan_at plan s).from ≡ (plan_at plan t).from → s ≡ t
-  pub tos_apart : (s t : ℕ) → s < length plan.streams → t < length plan.streams → (plan_at plan s).to ≡ (plan_at plan t).to → s ≡ t
+  -- PortTaken
+  pub ports_free : HaveOwnEnds plan (from_of plan) × HaveOwnEnds plan (to_of plan)
+  -- Cycle
   pub acyclic : EachStream plan (NeverReturns plan)
-  pub no_loops : EachStream plan (λ s. (plan_at plan s).from ≢ (plan_at plan s).to)
-  -- OpenPort, Unrouted, TooBig, TooMuch
+  -- Loop
+  pub no_loops : EachStream plan (λ s. from_of plan s ≢ to_of plan s)
+  -- OpenPort
   pub no_open_ports : EachBlock plan (HasStreams plan)
-  pub led : EachStream plan (IsLed tree nodes plan)
+  -- Unrouted
+  pub routed : EachStream plan (IsLed tree nodes plan)
+  -- TooBig
   pub small : EachStream plan (λ s. size_of plan s ≤ (plan_at plan s).flow.max)
-  pub bounded : EachStream plan (λ s. bound_of plan s ≤ 16384)
+  -- TooMuch
+  pub few_packets : EachStream plan (λ s. bound_of plan s ≤ 16384)

@@ -1,4 +1,5 @@
 -- The laws of specs/, with their proofs, for the proofs of other crates.
+use Rattle.net_ways.specs.Beginning as beginning
 use Rattle.net_ways.specs.Clear as clear
 use Rattle.net_ways.specs.Entering as entering
 use Rattle.net_ways.specs.Gather as gather
@@ -6,6 +7,7 @@ use Rattle.net_ways.specs.Hops as hops
 use Rattle.net_ways.specs.Standing as standing
 use Rattle.net_ways.specs.Unseen as unseen
 use Rattle.net_ways.specs.Ways as ways
+use Rattle.net_ways.proofs.Beginning.{begun-queues, begun-ways, built-queues, empty-placed, queues-stay}
 use Rattle.net_ways.proofs.Blindness.{hops-unseen, joins-unseen, leaves-unseen, losses-unseen, nodes-unseen, streams-unseen, unseen-twice}
 use Rattle.net_ways.proofs.Clearing.{channels-go_on}
 use Rattle.net_ways.proofs.Coming.{commands-come, samples-come, statuses-come}
@@ -92,3 +94,18 @@ losses_unseen = losses-unseen
 
 pub places_stay : standing.PlacesStay
 places_stay = places-stay
+
+pub queues_stay : beginning.QueuesStay
+queues_stay = queues-stay
+
+pub built_has_queues : beginning.BuiltHasQueues
+built_has_queues = built-queues
+
+pub begun_has_queues : beginning.BegunHasQueues
+begun_has_queues = begun-queues
+
+pub begun_has_ways : beginning.BegunHasWays
+begun_has_ways = begun-ways
+
+pub empty_is_placed : beginning.EmptyIsPlaced
+empty_is_placed = empty-placed

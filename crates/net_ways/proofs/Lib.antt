@@ -8,4 +8,5 @@ mod Blindness
 mod Entering
 mod Placing
 mod Staying
+mod Beginning
 pub mod Laws

@@ -5,3 +5,4 @@ pub mod Hops
 pub mod Unseen
 pub mod Entering
 pub mod Standing
+pub mod Beginning

@@ -1,4 +1,5 @@
 //! Each law is a function that does nothing and promises it.
+ghost use Rattle.net_ways.specs.Beginning.{BegunHasQueues, BegunHasWays, BuiltHasQueues, EmptyIsPlaced, QueuesStay};
 ghost use Rattle.net_ways.specs.Clear.{ChannelsGoOn};
 ghost use Rattle.net_ways.specs.Entering.{EntersAhead, EntersBack, LosesAhead, LosesBack};
 ghost use Rattle.net_ways.specs.Gather.{Comes, IsBlind, Joins, Loses, Moves};
@@ -63,4 +64,13 @@ pub fn others_are_unseen()
 /// Each entry stands in a queue of its channel, and those of a stream stand on its way.
 pub fn entries_stand_on_ways()
     ensures { PlacesStay }
+{}
+
+/// A network is built with its queues, and a run begins with the ways of its streams.
+pub fn runs_begin_with_ways()
+    ensures built { BuiltHasQueues }
+    ensures begun { BegunHasQueues }
+    ensures queues { QueuesStay }
+    ensures ways { BegunHasWays }
+    ensures placed { EmptyIsPlaced }
 {}

@@ -4,3 +4,5 @@
 #![tactic(auto)]
 
 pub mod law;
+#[cfg(test)]
+mod tests;
