@@ -10,3 +10,4 @@ pub mod TrackedLemmas
 pub mod StepLemmas
 pub mod NetLemmas
 pub mod ChooseLemmas
+pub mod Laws

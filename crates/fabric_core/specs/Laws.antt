@@ -54,6 +54,11 @@ abbrev pub StaysLawful : Type 0
 StaysLawful = (made : List (List Packet)) (w : State) (e : Event) →
     IsLawful made w → IsTrue (enabled w e) → IsLawful made (after w e)
 
+-- and so does a legal journal
+abbrev pub RunsStayLawful : Type 0
+RunsStayLawful = (made : List (List Packet)) (w : State) (journal : List Event) → IsLawful made w → IsLegal w journal →
+    IsLawful made (after_all w journal)
+
 -- a plan's run starts lawful
 abbrev pub StartsLawful : Type 0
 StartsLawful = (plan : TxPlan) → IsLawful (plain plan ∷ []) (start plan)

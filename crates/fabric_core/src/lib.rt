@@ -2,7 +2,7 @@
 #![tactic(auto)]
 
 mod event;
-mod laws;
+mod law;
 mod net;
 mod places;
 mod queue;

@@ -11,8 +11,7 @@ use Rattle.fabric_core.specs.Runs.{IsLegal, IsDrained, after_all, start, end_of}
 use Rattle.fabric_core.specs.declared.event.Event.{Event}
 use Rattle.fabric_core.specs.declared.tally.StreamEnd.{StreamEnd}
 use Rattle.fabric_core.specs.declared.tally.StreamEnd.TheVariants.{Drained}
-use Rattle.fabric_core.proofs.RunLaws.{all-lawful, order, rest_drained, drained_all, whole}
-use Rattle.fabric_core.proofs.LawfulLaws.{starts}
+use Rattle.fabric_core.proofs.Laws.{all-lawful, drained_all, order, rest_drained, starts, whole}
 use Rattle.block_library.specs.declared.plan.TxPlan.{TxPlan}
 use Rattle.rfnoc_cli.specs.declared.book.Book.{Book}
 use Rattle.rfnoc_cli.specs.declared.book.RunBook.{RunBook}

@@ -1,18 +1,19 @@
 //! What holds in every run; each law is a function that does nothing and promises it.
 //!
 //! Rule: docs/machine.md, "What always holds".
-ghost use Rattle.fabric_core.specs.Laws.{PresentTells, PresentFollows, StaysLawful, StartsLawful, OrderHolds, RestIsDrained, DrainedIsAll, ChosenIsWhole};
+ghost use Rattle.fabric_core.specs.Laws.{PresentTells, PresentFollows, StaysLawful, StartsLawful, RunsStayLawful, OrderHolds, RestIsDrained, DrainedIsAll, ChosenIsWhole};
 
-/// The present of a state tells whether an event may happen, and goes on as the machine does.
+/// The present of a state tells whether an event is enabled, and goes on as the machine does.
 pub fn the_present_is_enough()
     ensures tells { PresentTells }
     ensures follows { PresentFollows }
 {}
 
-/// A run starts lawful, and each event keeps the state lawful.
+/// A run starts lawful, and each event and each legal journal keeps the state lawful.
 pub fn states_are_lawful()
     ensures starts { StartsLawful }
     ensures stays { StaysLawful }
+    ensures runs { RunsStayLawful }
 {}
 
 /// In every state of every legal journal what was given is a prefix of what was sent.
@@ -26,7 +27,7 @@ pub fn rest_is_complete()
     ensures whole { DrainedIsAll }
 {}
 
-/// One thread's journal is legal, and ends where no event may happen.
+/// One thread's journal is legal, and ends if no event is enabled.
 pub fn one_thread_ends_at_rest()
     ensures { ChosenIsWhole }
 {}
