@@ -1,4 +1,6 @@
+ghost use Rattle.std.specs.Prelude.{◌≡◌};
 ghost use Rattle.chdr_words.specs.Control.{FitsControl, FitsCtrlOp};
+ghost use Rattle.block_registers.specs.Registers.{register, written_one, change};
 
 use crate::{Bank, Banks, PlainBank, RegisterBank, RegisterSlots, operate_fixed};
 use chdr_words::{Control, CtrlOp, CtrlStatus, Epid, Words15};
@@ -262,4 +264,39 @@ fn count_to(count: u32) -> Words15 {
         }
     }
     words
+}
+
+#[test]
+fn a_load_returns_the_bank_that_was_there(rt: HostRuntime) -> Result<(), Fail> {
+    let mut banks = Banks::new(rt.alloc())?;
+    let one: Bank = Box::new(rt.alloc(), plain(rt.alloc(), &[5], &[0])?)?;
+    let two: Bank = Box::new(rt.alloc(), plain(rt.alloc(), &[6, 7], &[0, 0])?)?;
+    assert!(rt; banks.load(3, one).is_none());
+    let first = banks.load(3, two);
+    assert_eq!(rt; first.as_ref().map(|bank| bank.read(0)), Some(Some(5)));
+    drop(first);
+    assert!(rt; !banks.discard(2));
+    assert!(rt; banks.discard(3));
+    assert!(rt; banks.unload(3).is_none());
+    Ok(())
+}
+
+/// Writes a word of a bank and reads it back: what can be written of it has changed, and no more.
+fn write_and_read(bank: &mut PlainBank, addr: u32, value: u32) -> Option<u32>
+    ensures read { result ≡ register bank.new.words addr }
+    ensures words { bank.new.words ≡
+        written_one bank.old.masks bank.old.words (change addr value 15) }
+    ensures masks { bank.new.masks ≡ bank.old.masks }
+{
+    bank.write(addr, value, 15);
+    bank.read(addr)
+}
+
+#[test]
+fn a_bank_is_written_and_read(rt: HostRuntime) -> Result<(), Fail> {
+    let mut bank = plain(rt.alloc(), &[5, 0], &[0, 0xff])?;
+    assert_eq!(rt; write_and_read(&mut bank, 4, 0x123), Some(0x23));
+    assert_eq!(rt; write_and_read(&mut bank, 0, 1), Some(5));
+    assert_eq!(rt; write_and_read(&mut bank, 8, 1), None);
+    Ok(())
 }
