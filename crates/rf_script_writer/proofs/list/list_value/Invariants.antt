@@ -1,0 +1,7 @@
+-- The values of the items before this one.
+use Rattle.std.proofs.Common.{◌≡◌, take, map}
+use Rattle.serde_json.specs.View.{view}
+use Rattle.rf_script_writer.proofs.list.list_value.Given as goal
+
+abbrev pub invariant-loop-item : goal.invariant-loop-item
+invariant-loop-item g l = map view l.values.items ≡ map g.T.Written.written (take l.item-index l.items)
