@@ -16,6 +16,7 @@ use Rattle.net_ways.proofs.Gathering.{gather-blind, gather-comes, gather-joins, 
 use Rattle.net_ways.proofs.Leading.{over-queues, ways-begin}
 use Rattle.net_ways.proofs.Moving.{hops-ahead, hops-back, hops-by_table}
 use Rattle.net_ways.proofs.Staying.{places-stay}
+use Rattle.net_ways.proofs.Waiting.{built-messages, messages-stay}
 
 pub blind : {A X : Type 0} → gather.IsBlind A X
 blind = gather-blind
@@ -109,3 +110,9 @@ begun_has_ways = begun-ways
 
 pub empty_is_placed : beginning.EmptyIsPlaced
 empty_is_placed = empty-placed
+
+pub messages_stay : standing.MessagesStay
+messages_stay = messages-stay
+
+pub built_holds_messages : standing.BuiltHoldsMessages
+built_holds_messages = built-messages

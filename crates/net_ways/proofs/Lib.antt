@@ -8,5 +8,6 @@ mod Blindness
 mod Entering
 mod Placing
 mod Staying
+mod Waiting
 mod Beginning
 pub mod Laws

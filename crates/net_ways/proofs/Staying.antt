@@ -1,6 +1,7 @@
 -- Each event leaves entries where they may stand.
 use Rattle.std.proofs.Common.{◌≡◌, ℕ, ◌+◌, ◌≤◌, ◌<◌, ◌⊎◌, inl, inr, Bool, true, false, List, [], ◌∷◌, ◌++◌, length, refl, sym, ◌∙◌, ap, subst, arith, if◌then◌else◌}
 use Rattle.std.specs.Prelude.{IsTrue, Option, Some, None, nat_lt, ◌==◌, ◌&&◌}
+use Rattle.std.specs.List.{AllByRecursion}
 use Rattle.std.specs.Option.{option_map_or}
 use Rattle.std.proofs.lemmas.Bool.{cases_lt, false≢true}
 use Rattle.std.proofs.lemmas.List.{get_or_past}
@@ -33,7 +34,7 @@ use Rattle.net_machine.specs.Queues.{back_vc, channel_of, forward_vc, link_of_qu
 use Rattle.net_machine.specs.State.{Entry, Message, Order, Report as Reported, Sample, State, Stream, idle, node_at, queue_at, stream_at}
 use Rattle.net_machine.specs.Streams.{entering, loses, receiving_of, sending_of}
 use Rattle.net_machine.proofs.Laws.{fronts, queues}
-use Rattle.net_ways.specs.Standing.{AreReady, ArePlaced, HaveWays, IsOn, IsPlaced, PlacesStay, Stands, StandsAhead, StandsBack}
+use Rattle.net_ways.specs.Standing.{AreReady, ArePlaced, HaveWays, IsMessageOn, IsOn, IsPlaced, PlacesStay, Stands, StandsAhead, StandsBack}
 use Rattle.net_ways.specs.Ways.{HasQueues, IsLedTo, queues_over, way_between}
 use Rattle.net_ways.proofs.Coming.{at-end}
 use Rattle.net_ways.proofs.Leading.{way-next}
@@ -257,7 +258,7 @@ report-placed w s lt has ways each =
 ask-placed : (w : State) (x : ℕ) (packets : List Packet) → (node_at w x).requests ≡ packets → AreReady w → ArePlaced w → ArePlaced (asks_first x packets w)
 ask-placed w x [] is ready each = each
 ask-placed w x (p ∷ rest) is ready each =
-    let r = ready.requests x p rest is in
+    let r : IsMessageOn forward_vc p = (subst (AllByRecursion (IsMessageOn forward_vc)) is (ready.messages x).requests).0 in
     placed-over (record w { requests = w.requests + 1 }) (link_at w.tree.links x 0) forward_vc (is_named w.faults (fault.Request w.requests)) p Message
     (λ d first. record {
       channel = r.0 ∙ sym (queues.channel d forward_vc (omega arith));
@@ -267,7 +268,7 @@ ask-placed w x (p ∷ rest) is ready each =
 reply-placed : (w : State) (x : ℕ) (packets : List Packet) → (node_at w x).pending ≡ packets → AreReady w → ArePlaced w → ArePlaced (replies_first x packets w)
 reply-placed w x [] is ready each = each
 reply-placed w x (p ∷ rest) is ready each =
-    let r = ready.pending x p rest is in
+    let r : IsMessageOn back_vc p = (subst (AllByRecursion (IsMessageOn back_vc)) is (ready.messages x).pending).0 in
     placed-over (record w { answers = w.answers + 1 }) (route_from w.tree w.nodes x p.dst) back_vc (is_named w.faults (fault.Answer w.answers)) p Message
     (λ d first. record {
       channel = r.0 ∙ sym (queues.channel d back_vc (omega arith));

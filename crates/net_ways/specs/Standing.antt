@@ -1,6 +1,7 @@
 -- Where entries stand: each in a queue of its channel, and those of a stream on its way.
-use Rattle.std.specs.Prelude.{◌≡◌, ℕ, ◌<◌, IsTrue, List, ◌∷◌, ◌++◌, length, Some}
+use Rattle.std.specs.Prelude.{◌≡◌, ℕ, ◌<◌, Bool, IsTrue, List, ◌∷◌, ◌++◌, length, Option, Some}
 use Rattle.std.specs.List.{AllByRecursion}
+use Rattle.block_registers.specs.Registers.{Registers}
 use Rattle.chdr_packets.specs.declared.packet.Body.{Body}
 use Rattle.chdr_packets.specs.declared.packet.Body.TheVariants as body
 use Rattle.chdr_packets.specs.declared.packet.Packet.{Packet}
@@ -8,11 +9,13 @@ use Rattle.chdr_words.specs.declared.epid.Epid.{Epid}
 use Rattle.net_topology.specs.declared.plan.Plan.{Plan}
 use Rattle.net_machine.specs.declared.event.Event.{Event}
 use Rattle.net_machine.specs.declared.plan.RunPlan.{RunPlan}
+use Rattle.net_machine.specs.Begin.{built}
 use Rattle.net_machine.specs.Conditions.{enabled}
 use Rattle.net_machine.specs.Effects.{after}
+use Rattle.net_machine.specs.Moves.{IsAllowed, Move, after_move}
 use Rattle.net_machine.specs.Plans.{plan_at, stream_from, stream_to}
 use Rattle.net_machine.specs.Queues.{back_vc, channel_of, forward_vc}
-use Rattle.net_machine.specs.State.{Entry, State, node_at, queue_at, stream_at}
+use Rattle.net_machine.specs.State.{Entry, Node, State, node_at, queue_at, stream_at}
 use Rattle.net_ways.specs.Hops.{GoesAhead}
 use Rattle.net_ways.specs.Ways.{HasQueues, IsLedTo, back_way, forward_way}
 
@@ -68,11 +71,23 @@ pub record HasWays (w : State) (s : ℕ) : Type 0 where
   pub to : stream_to w.plan (plan_at w.plan s).to ≡ Some s
   pub from : stream_from w.plan (plan_at w.plan s).from ≡ Some s
 
+-- a packet that waits at a node to enter this channel, and is no stream's
+abbrev pub IsMessageOn : ℕ → Packet → Type 0
+IsMessageOn vc p = (p.vc ≡ vc) × IsMessage p.body
+
+-- the requests and the pending answers of a node are such packets
+pub record HoldsMessages (n : Node) : Type 0 where
+  pub requests : AllByRecursion (IsMessageOn forward_vc) n.requests
+  pub pending : AllByRecursion (IsMessageOn back_vc) n.pending
+
+-- those of all nodes are
+abbrev pub AreMessages : State → Type 0
+AreMessages w = (x : ℕ) → HoldsMessages (node_at w x)
+
 -- what waits to enter may stand in its first queue
 pub record AreReady (w : State) : Type 0 where
   pub samples : (s : ℕ) (p : Packet) (rest : List Packet) → (stream_at w s).ready ≡ p ∷ rest → GoesAhead p.body
-  pub requests : (x : ℕ) (p : Packet) (rest : List Packet) → (node_at w x).requests ≡ p ∷ rest → (p.vc ≡ forward_vc) × IsMessage p.body
-  pub pending : (x : ℕ) (p : Packet) (rest : List Packet) → (node_at w x).pending ≡ p ∷ rest → (p.vc ≡ back_vc) × IsMessage p.body
+  pub messages : AreMessages w
 
 -- each stream of the plan is there, and has its ways
 pub record HaveWays (w : State) : Type 0 where
@@ -83,3 +98,11 @@ pub record HaveWays (w : State) : Type 0 where
 abbrev pub PlacesStay : Type 0
 PlacesStay = (w : State) (e : Event) → HasQueues w → HaveWays w → AreReady w → IsTrue (enabled w e)
     → ArePlaced w → ArePlaced (after w e)
+
+-- Nodes go on to hold such packets alone.
+abbrev pub MessagesStay : Type 0
+MessagesStay = (w : State) (move : Move) → IsAllowed w move → AreMessages w → AreMessages (after_move w move)
+
+-- A network is built without any.
+abbrev pub BuiltHoldsMessages : Type 0
+BuiltHoldsMessages = (tree : Plan) (routed : Bool) (banks : List (Option Registers)) → AreMessages (built tree routed banks)

@@ -4,7 +4,7 @@ ghost use Rattle.net_ways.specs.Clear.{ChannelsGoOn};
 ghost use Rattle.net_ways.specs.Entering.{EntersAhead, EntersBack, LosesAhead, LosesBack};
 ghost use Rattle.net_ways.specs.Gather.{Comes, IsBlind, Joins, Loses, Moves};
 ghost use Rattle.net_ways.specs.Hops.{CommandsCome, HopsAhead, HopsBack, HopsByTable, SamplesCome, StatusesCome};
-ghost use Rattle.net_ways.specs.Standing.{PlacesStay};
+ghost use Rattle.net_ways.specs.Standing.{BuiltHoldsMessages, MessagesStay, PlacesStay};
 ghost use Rattle.net_ways.specs.Unseen.{HopsUnseen, JoinsUnseen, LeavesUnseen, LossesUnseen, NodesUnseen, StreamsUnseen, UnseenTwice};
 ghost use Rattle.net_ways.specs.Ways.{WaysAreOverQueues, WaysBegin};
 
@@ -64,6 +64,12 @@ pub fn others_are_unseen()
 /// Each entry stands in a queue of its channel, and those of a stream stand on its way.
 pub fn entries_stand_on_ways()
     ensures { PlacesStay }
+{}
+
+/// What waits at nodes are requests and answers, on their channels.
+pub fn nodes_hold_messages()
+    ensures built { BuiltHoldsMessages }
+    ensures stay { MessagesStay }
 {}
 
 /// A network is built with its queues, and a run begins with the ways of its streams.
