@@ -1,5 +1,6 @@
 pub mod BudgetLemmas
 pub mod EntryLemmas
+pub mod FirstPlaceLemmas
 pub mod HopLemmas
 pub mod Laws
 pub mod TableLemmas

@@ -1,4 +1,5 @@
 pub mod Budget
+pub mod FirstPlaces
 pub mod Laws
 pub mod Operations
 pub mod Perform

@@ -4,6 +4,7 @@
 mod adapter;
 mod crossbar;
 mod end_node;
+mod first_place;
 mod hop;
 pub mod law;
 mod room;

@@ -1,6 +1,7 @@
 ghost use Rattle.std.specs.Prelude.{◌≡◌, [], map, IfOk};
 ghost use Rattle.net_nodes.specs.Table.{no_exit, exit_of, with_exit, IsPlaceOf};
 
+use crate::first_place::{FirstPlace, first_places, search};
 use chdr_words::{Epid, EpidList};
 use rf_base::Memory;
 use std::alloc::Global;
@@ -17,15 +18,20 @@ pub struct Place {
 #[derive(Debug, Drop)]
 pub struct Table {
     places: Vec<Place>,
+    /// The first place of each EPID, in the order of the EPIDs, so that it is found by halving.
+    order: Vec<FirstPlace>,
 }
 
 impl Model for Table {
     ghost use Rattle.std.specs.Prelude.{List};
+    ghost use Rattle.net_nodes.specs.FirstPlaces.{IsOrderOf};
     ghost use Rattle.net_nodes.specs.declared.table.Place.{Place};
 
     ghost Value = { List Place };
 
     ghost view = { λ table. table.places.items };
+
+    ghost invariant = { λ table. IsOrderOf table.order.items table.places.items };
 }
 
 impl Table {
@@ -33,15 +39,9 @@ impl Table {
     pub fn new(alloc: Global, epids: &EpidList) -> Result<Table, Memory>
         ensures { IfOk result (λ table. table ≡ map no_exit epids.now) }
     {
-        let places = epids
-            .as_slice()
-            .iter()
-            .map(|epid| Place {
-                epid: *epid,
-                exit: None,
-            })
-            .collect(alloc)?;
-        Ok(Table { places })
+        let places = places_of(alloc, epids)?;
+        let order = first_places(alloc, epids.as_slice())?;
+        Ok(Table { places, order })
     }
 
     /// The map without a place.
@@ -50,6 +50,7 @@ impl Table {
     {
         Table {
             places: Vec::new(alloc),
+            order: Vec::new(alloc),
         }
     }
 
@@ -77,11 +78,24 @@ impl Table {
     fn place_of(&self, epid: Epid) -> Option<usize>
         ensures { IsPlaceOf self.now epid result }
     {
-        for at in 0..self.places.len() {
-            if self.places[at].epid.0 == epid.0 {
-                return Some(at);
-            }
+        match search(self.order.as_slice(), epid) {
+            Ok(i) => Some(self.order[i].at),
+            Err(_) => None,
         }
-        None
     }
+}
+
+/// A place for each EPID, without entries.
+fn places_of(alloc: Global, epids: &EpidList) -> Result<Vec<Place>, Memory>
+    ensures { IfOk result (λ places. places.items ≡ map no_exit epids.now) }
+{
+    let places = epids
+        .as_slice()
+        .iter()
+        .map(|epid| Place {
+            epid: *epid,
+            exit: None,
+        })
+        .collect(alloc)?;
+    Ok(places)
 }
