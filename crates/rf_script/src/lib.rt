@@ -1,0 +1,10 @@
+//! The language of scripts: reading them, and the generated one.
+#![tactic(auto)]
+
+mod generated;
+
+pub use generated::gen_script;
+pub use rf_script_reader::read_script;
+pub use rf_script_types::{
+    Act, Acts, Due, Field, SCRIPT_LIMIT, Script, ScriptCommand, ScriptCommands, ScriptFault, Why,
+};
