@@ -18,6 +18,7 @@ use Rattle.net_rows.specs.Hosts.{AreTransactions}
 use Rattle.net_rows.specs.Journal.{IsJournal}
 use Rattle.net_rows.specs.Losses.{AreLosses}
 use Rattle.net_rows.specs.Numbers.{AreNumbers}
+pub use Rattle.net_rows.proofs.Possible.{possible}
 
 pub journal : IsJournal
 unfolding may after after_all next_of seed_of enabled_list IsChosen produced packet_of first_of last_of half_at
@@ -25,6 +26,8 @@ journal = record {
   chosen = (refl, (refl, (refl, (refl, (refl, (refl, (refl, (refl, (refl, (refl, (refl, (refl, (refl, (refl, (refl, (refl, (refl, (refl, (refl, (refl, (refl, (refl, (refl, (refl, refl))))))))))))))))))))))));
   ended = record { still = refl; ended = refl; has_sent = refl; has_delivered = refl; has_acked = refl; has_epochs = refl };
   line = refl;
+  peak = refl;
+  kept_peak = refl;
 }
 
 pub credit : IsWithinCapacity

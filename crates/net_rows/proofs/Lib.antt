@@ -1,1 +1,2 @@
+mod Possible
 pub mod Laws

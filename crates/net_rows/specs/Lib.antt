@@ -5,3 +5,4 @@ pub mod Numbers
 pub mod Losses
 pub mod Blocks
 pub mod Hosts
+pub mod Plans

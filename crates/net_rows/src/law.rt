@@ -5,6 +5,7 @@ ghost use Rattle.net_rows.specs.Hosts.{AreTransactions};
 ghost use Rattle.net_rows.specs.Journal.{IsJournal};
 ghost use Rattle.net_rows.specs.Losses.{AreLosses};
 ghost use Rattle.net_rows.specs.Numbers.{AreNumbers};
+ghost use Rattle.net_rows.specs.Plans.{IsPossible};
 
 /// Three packets cross a crossbar: one thread's journal, event by event.
 pub fn three_packets_cross_a_crossbar()
@@ -34,4 +35,9 @@ pub fn blocks_pass_packets_on()
 /// A host finds a network, writes a route, and reads and writes registers; an answer is lost.
 pub fn hosts_read_and_write_registers()
     ensures { AreTransactions }
+{}
+
+/// The plan of the first run can begin on its network.
+pub fn a_plan_can_begin()
+    ensures { IsPossible }
 {}

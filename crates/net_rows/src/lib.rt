@@ -6,6 +6,7 @@
 mod law;
 
 pub use law::{
-    blocks_pass_packets_on, capacity_bounds_what_is_outstanding, hosts_read_and_write_registers,
-    losses_end_or_resynchronise_a_stream, numbers_wrap, three_packets_cross_a_crossbar,
+    a_plan_can_begin, blocks_pass_packets_on, capacity_bounds_what_is_outstanding,
+    hosts_read_and_write_registers, losses_end_or_resynchronise_a_stream, numbers_wrap,
+    three_packets_cross_a_crossbar,
 };
