@@ -1,0 +1,4 @@
+-- The laws of a network's streams, for other crates' proofs to cite.
+pub use Rattle.net_streams.proofs.Showing.{unseen_shows}
+pub use Rattle.net_streams.proofs.Sending.{enter_acts, report_acts}
+pub use Rattle.net_streams.proofs.Coming.{commands_act, samples_act, statuses_act}

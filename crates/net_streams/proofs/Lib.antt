@@ -1,0 +1,4 @@
+mod Showing
+mod Sending
+mod Coming
+pub mod Laws

@@ -1,0 +1,19 @@
+ghost use Rattle.net_streams.specs.Acting.{CommandsAct, EnterActs, ReportActs, SamplesAct, StatusesAct, UnseenShows};
+
+/// What a stream doesn't see changes nothing of what the network shows of it.
+pub fn what_is_unseen_changes_nothing()
+    ensures { UnseenShows }
+{}
+
+/// A packet and a status that enter are acts of their stream.
+pub fn what_is_sent_is_an_act()
+    ensures enters { EnterActs }
+    ensures reports { ReportActs }
+{}
+
+/// A packet, a command and a status that come to the end of their way are acts of their stream.
+pub fn what_comes_is_an_act()
+    ensures samples { SamplesAct }
+    ensures commands { CommandsAct }
+    ensures statuses { StatusesAct }
+{}
