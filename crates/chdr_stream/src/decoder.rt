@@ -6,7 +6,7 @@ ghost use Rattle.chdr_stream.specs.Stream.{Answers, after, fed_with, finish_at, 
 use crate::placed::{FinishFault, Passed, Placed, StreamFault};
 use crate::window::Window;
 use chdr_packets::{PacketFault, pass, read_front};
-use rf_base::Memory;
+use rf_base::{Bytes, Memory};
 use std::alloc::Global;
 use std::marker::Model;
 
@@ -40,6 +40,17 @@ impl Decoder {
     {
         Decoder {
             window: Window::new(alloc),
+            fault: None,
+        }
+    }
+
+    /// A decoder that was fed these bytes; it takes no memory.
+    pub fn over(bytes: Bytes) -> Decoder
+        requires { length bytes < 2 ^ 64 }
+        ensures { result ≡ record { at = 0; kept = bytes; fault = None; held = length bytes } }
+    {
+        Decoder {
+            window: Window::over(bytes),
             fault: None,
         }
     }

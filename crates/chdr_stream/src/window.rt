@@ -1,7 +1,7 @@
 ghost use Rattle.std.specs.Prelude.{◌≡◌, ◌+◌, ◌<◌, ◌≤◌, ◌^◌, [], drop, vec_len, length, OnOk, OnErr};
 ghost use Rattle.chdr_stream.specs.Window.{passed, released, with_piece};
 
-use rf_base::Memory;
+use rf_base::{Bytes, Memory};
 use std::alloc::Global;
 use std::marker::Model;
 
@@ -51,6 +51,18 @@ impl Window {
     {
         Window {
             bytes: Vec::new(alloc),
+            start: 0,
+            place: 0,
+        }
+    }
+
+    /// A window over bytes that are all there; it takes no memory.
+    pub fn over(bytes: Bytes) -> Window
+        requires { length bytes < 2 ^ 64 }
+        ensures { result ≡ record { at = 0; kept = bytes; held = length bytes } }
+    {
+        Window {
+            bytes: bytes.into_vec(),
             start: 0,
             place: 0,
         }
