@@ -1,0 +1,5 @@
+pub mod ReadLemmas
+pub mod RestLemmas
+pub mod FileLemmas
+pub mod CutLemmas
+pub mod Laws
