@@ -41,14 +41,14 @@ faults d room more = fault_after d room more
 
 -- ---- a piece is fed
 
-take-past : (piece more : List ℕ) (room : ℕ) → length piece ≤ room → take room (piece ++ more) ≡ piece ++ take (room - length piece) more
+pub take-past : (piece more : List ℕ) (room : ℕ) → length piece ≤ room → take room (piece ++ more) ≡ piece ++ take (room - length piece) more
 take-past [] more room le = let e : room - 0 ≡ room = omega arith in rw e refl
 take-past (x ∷ piece) more zero le = absurd (omega arith)
 take-past (x ∷ piece) more (suc room) le =
     let e : room - length piece ≡ suc room - suc (length piece) = omega arith in
     ap (λ (l : List ℕ). x ∷ l) (take-past piece more room (omega arith)) ∙ ap (λ (k : ℕ). x ∷ (piece ++ take k more)) e
 
-long_as : (room : ℕ) (piece more : List ℕ) (t : Bool) → length piece ≤ room → ltb (room - length piece) (length more) ≡ t → ltb room (length (piece ++ more)) ≡ t
+pub long_as : (room : ℕ) (piece more : List ℕ) (t : Bool) → length piece ≤ room → ltb (room - length piece) (length more) ≡ t → ltb room (length (piece ++ more)) ≡ t
 long_as room piece more true le e = lt-ltb _ _ (omega (arith, length-append piece more, le, ltb-true _ _ e))
 long_as room piece more false le e = le-ltb _ _ (omega (arith, length-append piece more, le, ltb-false _ _ e))
 
@@ -183,9 +183,9 @@ closes_long None d none = record {
 closes_long (Some fault) d (reason, why, stands) = record { items = ap (λ (c : Capture). c.items) (stands []); tells = stuck_fault fault reason true (rest_of d []) why (stands []) }
 
 -- of the last bytes nothing more is taken
-record Last (room : ℕ) (last : List ℕ) (long : Bool) : Type 0 where
-  none : take room last ≡ []
-  past : ltb room (length last) ≡ long
+pub record Last (room : ℕ) (last : List ℕ) (long : Bool) : Type 0 where
+  pub none : take room last ≡ []
+  pub past : ltb room (length last) ≡ long
 
 ends_parts : (d d2 : Stream) (room : ℕ) (last : List ℕ) (long : Bool) (items : List Placed) (fault : Option Fault) → Last room last long → Gave d d2 items → Closes d2 long fault
     → (items_after d room last ≡ items) × (fault_after d room last ≡ fault)
@@ -206,11 +206,11 @@ lists_last d d2 packets counted room last long page put wrote fault e l c w =
       sees = sym parts.1;
     }
 
-at_end : (room : ℕ) → Last room [] false
+pub at_end : (room : ℕ) → Last room [] false
 at_end zero = record { none = refl; past = refl }
 at_end (suc room) = record { none = refl; past = le-ltb _ _ (omega arith) }
 
-at_limit : (room : ℕ) (more : List ℕ) → room ≡ 0 → 0 < length more → Last room more true
+pub at_limit : (room : ℕ) (more : List ℕ) → room ≡ 0 → 0 < length more → Last room more true
 at_limit room more none some = record { none = rw none refl; past = lt-ltb _ _ (omega arith) }
 
 pub lists_end : (d d2 : Stream) (packets counted room : ℕ) (page put wrote : List ℕ) (stands fault : Option Fault) → Lists d d2 packets counted page put → IsAt stands d2 → fault ≡ last_fault stands d2

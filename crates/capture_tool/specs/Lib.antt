@@ -4,3 +4,5 @@ pub mod Names
 pub mod Listing
 pub mod Follows
 pub mod Outcome
+pub mod Pcap
+pub mod PcapFollows

@@ -3,7 +3,7 @@ use Rattle.std.specs.Prelude.{ℕ, codes, decimal, List, ◌++◌, Option, None,
 use Rattle.capture_tool.specs.declared.seen.Counts.{Counts}
 use Rattle.capture_tool.specs.declared.seen.Fault.{Fault}
 use Rattle.capture_tool.specs.declared.seen.Why.{Why}
-use Rattle.capture_tool.specs.declared.seen.Why.TheVariants.{ReservedType, BadLength, Truncated, BadStatusLength, BadCommandLength, BadControlLength, BadManagement, TooLong}
+use Rattle.capture_tool.specs.declared.seen.Why.TheVariants.{ReservedType, BadLength, Truncated, BadStatusLength, BadCommandLength, BadControlLength, BadManagement, TooLong, BadMagic, BadVersion, BadLink, BadRecord}
 use Rattle.capture_tool.specs.Seen.{seen_of}
 
 abbrev pub why_text : Why → List ℕ
@@ -15,6 +15,10 @@ why_text BadCommandLength = codes "BadCommandLength"
 why_text BadControlLength = codes "BadControlLength"
 why_text BadManagement = codes "BadManagement"
 why_text TooLong = codes "TooLong"
+why_text BadMagic = codes "BadMagic"
+why_text BadVersion = codes "BadVersion"
+why_text BadLink = codes "BadLink"
+why_text BadRecord = codes "BadRecord"
 
 -- the last line at a fault
 abbrev pub fault_line : Fault → List ℕ

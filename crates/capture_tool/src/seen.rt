@@ -6,7 +6,7 @@ use chdr_packets::PacketFault;
 use chdr_words::MsgFault;
 use thiserror::Error;
 
-/// Why a capture ends before its bytes do.
+/// Why a capture or a pcap file ends before its bytes do; the last four are of files.
 #[derive(Clone, Copy, Debug, PartialEq, Eq, Error)]
 pub enum Why {
     #[error("ReservedType")]
@@ -26,6 +26,14 @@ pub enum Why {
     /// It goes on past 2^30 bytes.
     #[error("TooLong")]
     TooLong,
+    #[error("BadMagic")]
+    BadMagic,
+    #[error("BadVersion")]
+    BadVersion,
+    #[error("BadLink")]
+    BadLink,
+    #[error("BadRecord")]
+    BadRecord,
 }
 
 /// The first fault of a capture and the byte at which it stands.

@@ -1,4 +1,4 @@
-use crate::{Fault, Why, check_capture, show_capture};
+use crate::{Fault, Why, check_capture, show_capture, show_pcap};
 use rf_base::{Bytes, CountList, Items, Memory};
 use rf_outside::{MemSink, MemSource, SureSink, SureSource, Text};
 use std::alloc::Global;
@@ -143,6 +143,46 @@ op BLOCK_WRITE status OKAY enables 15 addr 16 words 17 34\n\
 144 management vc 0 eob 0 eov 0 seq 0 dst 0 meta 0 src 1 version 256 width 0 hops 2 ops 3\n\
 packets 6\n";
 
+/// The bytes of examples/two-datagrams.pcap.
+const PCAP_EXAMPLE: [u8; 380] = [
+    // the file's header, little order, Ethernet
+    212, 195, 178, 161, 2, 0, 4, 0, 0, 0, 0, 0, 0, 0, 0, 0, 0, 0, 4, 0, 1, 0, 0, 0,
+    // record 0: 98 bytes of frame
+    0, 0, 0, 0, 0, 0, 0, 0, 98, 0, 0, 0, 98, 0, 0, 0,
+    // its frame
+    2, 0, 0, 0, 0, 2, 2, 0, 0, 0, 0, 1, 8, 0, 69, 0, 0, 84, 0, 0, 64, 0, 64, 17, 0, 0, 10, 0, 0, 1,
+    10, 0, 0, 2, 192, 1, 195, 80, 0, 64, 0, 0, 2, 0, 16, 0, 0, 0, 192, 0, 0, 0, 0, 0, 0, 0, 0, 0,
+    1, 0, 40, 0, 0, 0, 32, 0, 2, 0, 0, 0, 16, 0, 0, 0, 16, 0, 0, 3, 0, 0, 0, 0, 48, 0, 0, 0, 0, 0,
+    0, 0, 0, 0, 0, 0, 0, 0, 0, 0,
+    // record 1: 60 bytes of frame, ARP
+    1, 0, 0, 0, 0, 0, 0, 0, 60, 0, 0, 0, 60, 0, 0, 0,
+    // its frame
+    2, 0, 0, 0, 0, 2, 2, 0, 0, 0, 0, 1, 8, 6, 0, 0, 0, 0, 0, 0, 0, 0, 0, 0, 0, 0, 0, 0, 0, 0, 0, 0,
+    0, 0, 0, 0, 0, 0, 0, 0, 0, 0, 0, 0, 0, 0, 0, 0, 0, 0, 0, 0, 0, 0, 0, 0, 0, 0, 0, 0,
+    // record 2: 74 bytes of frame
+    2, 0, 0, 0, 0, 0, 0, 0, 74, 0, 0, 0, 74, 0, 0, 0,
+    // its frame
+    2, 0, 0, 0, 0, 2, 2, 0, 0, 0, 0, 1, 8, 0, 69, 0, 0, 60, 0, 0, 64, 0, 64, 17, 0, 0, 10, 0, 0, 1,
+    10, 0, 0, 2, 195, 80, 192, 1, 0, 40, 0, 0, 2, 0, 29, 0, 0, 0, 224, 0, 232, 3, 0, 0, 0, 0, 0, 0,
+    0, 1, 2, 3, 4, 5, 6, 7, 8, 9, 10, 11, 12, 0, 0, 0,
+    // record 3: 60 of 74 bytes of frame
+    3, 0, 0, 0, 0, 0, 0, 0, 60, 0, 0, 0, 74, 0, 0, 0,
+    // its frame
+    2, 0, 0, 0, 0, 2, 2, 0, 0, 0, 0, 1, 8, 0, 69, 0, 0, 60, 0, 0, 64, 0, 64, 17, 0, 0, 10, 0, 0, 1,
+    10, 0, 0, 2, 192, 1, 195, 80, 0, 40, 0, 0, 2, 0, 29, 0, 0, 0, 224, 0, 232, 3, 0, 0, 0, 0, 0, 0,
+    0, 1,
+];
+
+/// The listing that examples/README.md gives.
+const PCAP_LISTED: &[u8] = b"\
+record 0 49153>50000 bytes 56\n\
+0 data vc 0 eob 0 eov 0 seq 0 dst 2 meta 0 time - bytes 8\n\
+16 status vc 0 eob 0 eov 0 seq 0 dst 1 meta 0 code OKAY src 2 cap 4096/16 \
+got 48/3 info 0 buffer 0\n\
+record 2 50000>49153 bytes 32\n\
+0 data vc 0 eob 0 eov 0 seq 0 dst 2 meta 0 time 1000 bytes 13\n\
+records 4 datagrams 2 cut 1 packets 3 faults 0\n";
+
 fn bytes_of(alloc: Global, bytes: &[u8]) -> Result<Bytes, Memory> {
     Ok(Items::from_vec(Vec::from_slice(alloc, bytes)?))
 }
@@ -243,6 +283,18 @@ fn a_listing_is_the_same_however_the_bytes_come(rt: HostRuntime) -> Result<(), F
         let mut out = SureSink::new(rt.alloc(), 100)?;
         assert_eq!(rt; show_capture(rt.alloc(), &mut src, &mut out), 0);
         assert_eq!(rt; out.kept(), listing.as_slice(), "at {cut}");
+    }
+    Ok(())
+}
+
+#[test]
+fn a_pcap_file_is_listed(rt: HostRuntime) -> Result<(), Fail> {
+    let other: &[u8] = b"records 4 datagrams 0 cut 0 packets 0 faults 0\n";
+    for (port, listing) in [(49153, PCAP_LISTED), (50000, PCAP_LISTED), (50001, other)] {
+        let mut src = SureSource::new(bytes_of(rt.alloc(), &PCAP_EXAMPLE)?);
+        let mut out = SureSink::new(rt.alloc(), 4096)?;
+        assert_eq!(rt; show_pcap(rt.alloc(), &mut src, &mut out, port), 0);
+        assert_eq!(rt; out.kept(), listing);
     }
     Ok(())
 }

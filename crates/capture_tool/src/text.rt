@@ -19,6 +19,10 @@ fn why_text(why: Why) -> &'static [u8]
         Why::BadControlLength => b"BadControlLength",
         Why::BadManagement => b"BadManagement",
         Why::TooLong => b"TooLong",
+        Why::BadMagic => b"BadMagic",
+        Why::BadVersion => b"BadVersion",
+        Why::BadLink => b"BadLink",
+        Why::BadRecord => b"BadRecord",
     }
 }
 
