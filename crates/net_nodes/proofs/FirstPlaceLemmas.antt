@@ -25,12 +25,14 @@ pub searched : (order : List FirstPlace) (epid : Epid) (r : Result ℕ ℕ) → 
 searched order epid (Ok i) rises range equal =
     (record { in_range = range; same = λ d. ranked _ epid.0 _ (sym (equal d)) }, tt)
 searched order epid (Err i) rises range parted =
-    let parts = parted (comparisons_rise order epid.0 rises) in
-    (tt, record {
-      in_range = range;
-      lower = λ k d low high. ranked _ epid.0 _ (sym (parts.0 k d low high));
-      higher = λ k d low high. ranked _ epid.0 _ (sym (parts.1 k d low high));
-    })
+    let parts = parted (comparisons_rise order epid.0 rises) in (
+      tt,
+      record {
+        in_range = range;
+        lower = λ k d low high. ranked _ epid.0 _ (sym (parts.0 k d low high));
+        higher = λ k d low high. ranked _ epid.0 _ (sym (parts.1 k d low high));
+      },
+    )
 
 -- an EPID that has a gap is unlisted
 unlisted : (order : List FirstPlace) (epid : Epid) (i : ℕ) → IsGapFor order epid i → IsUnlisted order epid

@@ -22,6 +22,19 @@ pub record FitsAdapter (switch : Switch) : Type 0 where
   pub linked : switch.linked < 2 ^ switch.ports
   pub entries : HasEntries switch.ports switch.table
 
+-- of these a crossbar can be made: its number, its ports and its link bits
+pub record MakesCrossbar (instance ports linked : ℕ) : Type 0 where
+  pub number : instance < 1024
+  pub some : 1 ≤ ports
+  pub many : ports ≤ 32
+  pub links : linked < 2 ^ ports
+
+-- of these an adapter can be made
+pub record MakesAdapter (instance ports linked : ℕ) : Type 0 where
+  pub number : instance < 1024
+  pub two : ports ≡ 2
+  pub links : linked < 2 ^ ports
+
 -- a crossbar or an adapter, by its kind, at which a packet came by a port
 abbrev pub switch_site : NodeKind → Switch → ℕ → Site
 switch_site kind switch arrival = record {

@@ -1,9 +1,10 @@
 ghost use Rattle.std.specs.Prelude.{◌≡◌, ◌↔◌, ◌+◌, ◌≤◌, ◌<◌, ◌^◌, IsTrue, map, length, IfOk, IfSome};
 ghost use Rattle.net_nodes.specs.Operations.{asked_in};
 ghost use Rattle.net_nodes.specs.Perform.{first_hop, last_hop, performed, without_first, work_of};
-ghost use Rattle.net_nodes.specs.Switch.{FitsCrossbar, crossbar_site};
+ghost use Rattle.net_nodes.specs.Switch.{FitsCrossbar, MakesCrossbar, crossbar_site};
 ghost use Rattle.net_nodes.specs.Table.{no_exit, exit_of, with_exit};
 
+use crate::switch::within;
 use crate::{Done, Room, Switch};
 use chdr_words::{Epid, EpidList, Management, NodeKind};
 use rf_base::Memory;
@@ -29,6 +30,13 @@ impl Model for Crossbar {
 
 #[tactic(auto, using(crate::proofs::EntryLemmas::entry_lemmas))]
 impl Crossbar {
+    /// Whether `new` makes a node of these: exactly what it asks for.
+    pub fn fits(instance: u16, ports: u8, linked: u32) -> bool
+        ensures { IsTrue result ↔ MakesCrossbar instance ports linked }
+    {
+        ports >= 1 && ports <= 32 && instance < 1024 && within(linked, ports)
+    }
+
     /// The node with a place for each EPID and no entries; bit p of `linked` says that port p has
     /// a link.
     pub fn new(

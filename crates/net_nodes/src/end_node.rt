@@ -1,4 +1,4 @@
-ghost use Rattle.std.specs.Prelude.{◌≡◌, ◌+◌, ◌≤◌, ◌<◌, [], length};
+ghost use Rattle.std.specs.Prelude.{◌≡◌, ◌↔◌, ◌+◌, ◌≤◌, ◌<◌, [], IsTrue, length};
 ghost use Rattle.chdr_words.specs.NodeInfo.{FitsInfo};
 ghost use Rattle.net_nodes.specs.Operations.{asked_in};
 ghost use Rattle.net_nodes.specs.Perform.{first_hop, last_hop, performed, without_first};
@@ -17,6 +17,13 @@ pub struct EndNode {
 }
 
 impl EndNode {
+    /// Whether the node's number is below 1,024: what `perform` asks for.
+    pub fn fits(&self) -> bool
+        ensures { IsTrue result ↔ self.now.instance < 1024 }
+    {
+        self.instance < 1024
+    }
+
     /// Performs the first hop of a packet, and takes it off.
     ///
     /// `room` is from `reserve_answers`. Rule: docs/control-and-discovery.md, "Hops".

@@ -1,7 +1,7 @@
 //! The laws of nodes, for the crates above: each is the contract of a function that does nothing.
-ghost use Rattle.net_nodes.specs.Laws.{TablesAreMaps, EntriesArePorts, BudgetStays, HopsFall, PerformedPacketsFit};
+ghost use Rattle.net_nodes.specs.Laws.{TablesAreMaps, EntriesArePorts, BudgetStays, HopsFall, PerformedPacketsFit, CrossbarSitesFit, AdapterSitesFit, EndSitesFit};
 
-use crate::{Site, Table};
+use crate::{EndNode, Site, Switch, Table};
 
 /// A table is a finite map: a new entry is found at its EPID, and every other entry stays.
 pub fn tables_are_maps(table: &Table)
@@ -27,4 +27,15 @@ pub fn performed_packets_fit(site: &Site, table: &Table)
 {
     let _ = site;
     let _ = table;
+}
+
+/// A node that fits is a site that fits, and so are its entries: `performed_packets_fit` speaks of
+/// every node.
+pub fn nodes_are_sites_that_fit(switch: &Switch, node: &EndNode)
+    ensures crossbar { CrossbarSitesFit switch.now }
+    ensures adapter { AdapterSitesFit switch.now }
+    ensures end_node { EndSitesFit node.now }
+{
+    let _ = switch;
+    let _ = node;
 }

@@ -15,7 +15,7 @@ mod table;
 pub use adapter::Adapter;
 pub use crossbar::Crossbar;
 pub use end_node::EndNode;
-pub use room::{Room, asked_answers, reserve_answers};
+pub use room::{Room, asked_answers, is_within_budget, reserve_answers};
 pub use site::{Done, Site};
 pub use switch::Switch;
 pub use table::{Place, Table};

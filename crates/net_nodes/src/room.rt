@@ -1,10 +1,10 @@
 ghost use Rattle.std.specs.Prelude.{◌≡◌, ◌↔◌, ◌+◌, ◌≤◌, [], IsTrue, length, IfOk};
 ghost use Rattle.std.specs.Vec.{vec_capacity};
-ghost use Rattle.net_nodes.specs.Budget.{Serves};
+ghost use Rattle.net_nodes.specs.Budget.{Serves, asked_by, budget};
 ghost use Rattle.net_nodes.specs.Operations.{asked, asked_in};
 ghost use Rattle.net_nodes.specs.Perform.{first_hop, last_hop};
 
-use chdr_words::{Management, MgmtOp, Operation};
+use chdr_words::{Hop, Management, MgmtOp, Operation};
 use rf_base::Memory;
 use std::alloc::Global;
 use std::marker::Model;
@@ -76,6 +76,31 @@ pub fn asked_answers(m: &Management) -> usize
         [] => 0,
         [first, ..] => asked_in(first.as_slice()),
     }
+}
+
+/// Whether the last hop with the answers that all hops ask has at most 256 operations: what the law
+/// `performed_packets_fit` asks for.
+pub fn is_within_budget(m: &Management) -> bool
+    ensures { IsTrue result ↔ budget m.now ≤ 256 }
+{
+    let last = last_len(m);
+    last <= 256 && asks_at_most(m.hops.as_slice(), 256 - last)
+}
+
+/// Whether hops ask at most this number of answers, all together.
+#[tactic(auto, using(crate::proofs::HopLemmas::asked_by_more))]
+fn asks_at_most(hops: &[Hop], most: usize) -> bool
+    ensures { IsTrue result ↔ asked_by hops.now ≤ most }
+{
+    let mut left = most;
+    for hop in hops {
+        let asked = asked_in(hop.as_slice());
+        if asked > left {
+            return false;
+        }
+        left -= asked;
+    }
+    true
 }
 
 #[tactic(auto, using(crate::proofs::HopLemmas::asked_in_more))]

@@ -1,4 +1,4 @@
-ghost use Rattle.std.specs.Prelude.{◌≡◌, ◌+◌, ◌≤◌, ◌<◌, ◌^◌, map, length, IfOk};
+ghost use Rattle.std.specs.Prelude.{◌≡◌, ◌↔◌, ◌+◌, ◌≤◌, ◌<◌, ◌^◌, IsTrue, map, length, IfOk};
 ghost use Rattle.chdr_words.specs.NodeInfo.{FitsInfo, FitsNodeKind};
 ghost use Rattle.net_nodes.specs.Operations.{asked_in};
 ghost use Rattle.net_nodes.specs.Perform.{first_hop, last_hop, performed, without_first, work_of};
@@ -92,4 +92,13 @@ impl Switch {
             arrival,
         }
     }
+}
+
+/// Whether each bit of `linked` is that of one of the ports.
+#[tactic(auto, using(crate::proofs::SiteLemmas::one_shifted))]
+pub(crate) fn within(linked: u32, ports: u8) -> bool
+    requires { ports ≤ 32 }
+    ensures { IsTrue result ↔ linked < 2 ^ ports }
+{
+    (linked as u64) < 1u64 << ports
 }
