@@ -1,0 +1,2 @@
+pub mod RespellLemmas
+pub mod AnswerLemmas
