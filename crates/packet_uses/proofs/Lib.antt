@@ -1,2 +1,3 @@
 pub mod RespellLemmas
+pub mod CollectLemmas
 pub mod AnswerLemmas

@@ -2,9 +2,11 @@
 #![tactic(auto)]
 
 mod answering;
+mod collecting;
 mod respelling;
 
 pub use answering::answer;
+pub use collecting::{Collected, End, collect};
 pub use respelling::respell;
 
 #[cfg(test)]

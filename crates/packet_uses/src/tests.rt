@@ -1,4 +1,4 @@
-use crate::{answer, respell};
+use crate::{End, answer, collect, respell};
 use block_registers::{Bank, Banks, PlainBank};
 use chdr_packets::PacketFault;
 use chdr_words::Epid;
@@ -57,5 +57,18 @@ fn a_read_is_answered_with_its_word(rt: HostRuntime) -> Result<(), Fail> {
     let reply = answer(rt.alloc(), Epid(7), &mut slots, &REQUEST)?.ok_or("a reply")?;
     assert_eq!(rt; reply.as_slice(), REPLY.as_slice());
     assert_eq!(rt; answer(rt.alloc(), Epid(1), &mut slots, &REPLY)?, None);
+    Ok(())
+}
+
+#[test]
+fn a_packet_comes_from_two_pieces_and_the_rest_is_cut(rt: HostRuntime) -> Result<(), Fail> {
+    let pieces = [
+        Items::from_vec(PADDED[..5].to_vec(rt.alloc())?),
+        Items::from_vec(PADDED[5..].to_vec(rt.alloc())?),
+        Items::from_vec(PLAIN[..9].to_vec(rt.alloc())?),
+    ];
+    let found = collect(rt.alloc(), &pieces)?;
+    assert_eq!(rt; found.packets.len(), 1);
+    assert_eq!(rt; found.end, End::Truncated { at: 16 });
     Ok(())
 }
