@@ -5,3 +5,4 @@ pub mod NextLemmas
 pub mod UnderWay
 pub mod StraightLemmas
 pub mod OutcomeLemmas
+pub mod WordLemmas

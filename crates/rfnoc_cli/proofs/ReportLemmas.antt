@@ -1,6 +1,6 @@
 -- The texts of lists, one place after another.
 use Rattle.std.proofs.Common.{◌≡◌, ◌+◌, ◌<◌, ◌≤◌, ℕ, List, [], ◌∷◌, ◌++◌, length, drop, get_or, refl, sym, ◌∙◌, ap, arith, suc, min, ◌⊎◌, inl, inr, drop-cons, append_assoc, append-nil}
-use Rattle.std.specs.Prelude.{codes, decimal}
+use Rattle.std.specs.Prelude.{codes, decimal, OnOk, Result, Ok, Err}
 use Rattle.std.proofs.lemmas.List.{drop_all}
 use Rattle.std.proofs.lemmas.Bool.{cases_lt}
 use Rattle.std.proofs.lemmas.List.Sums.{sum_by_more}
@@ -63,3 +63,14 @@ sinks_text-end lines k h = rw (drop_all k lines h) refl
 pub ruleset text_lemmas = (books_text-at, streams_text-at, sinks_text-at, books_text-end, streams_text-last, sinks_text-end, append_assoc, append-nil)
 
 pub ruleset sum_lemmas = (sum_by_more)
+
+-- ---- texts put one behind the other
+
+pub pushed : {T E : Type 0} (r : Result T E) (old mid new a b : List ℕ) → mid ≡ old ++ a → OnOk r (new ≡ mid ++ b) → OnOk r (new ≡ old ++ (a ++ b))
+pushed (Ok x) old mid new a b e p = p ∙ ap (λ (t : List ℕ). t ++ b) e ∙ append_assoc old a b
+pushed (Err f) old mid new a b e p = tt
+
+pub regrouped : {T E : Type 0} (r : Result T E) (old new name number rest end : List ℕ) → OnOk r (new ≡ old ++ ((name ++ (number ++ rest)) ++ end)) → OnOk r (new ≡ old ++ (name ++ (number ++ (rest ++ end))))
+regrouped (Ok x) old new name number rest end p =
+    p ∙ ap (λ (t : List ℕ). old ++ t) (append_assoc name (number ++ rest) end ∙ ap (λ (t : List ℕ). name ++ t) (append_assoc number rest end))
+regrouped (Err f) old new name number rest end p = tt

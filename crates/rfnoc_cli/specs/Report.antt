@@ -1,6 +1,5 @@
 -- The report: a line for each command, with a run's streams and sinks under it, and the last line.
-use Rattle.std.specs.Prelude.{ℕ, ◌+◌, ◌-◌, ◌^◌, ◌==◌, min, List, [], ◌∷◌, ◌++◌, length, sum_by, if◌then◌else◌, Option, None, Some, codes, decimal, ◌≡◌, Result, OnOk, String, string_bytes}
-use Rattle.std.specs.declared.alloc.Global.{Global}
+use Rattle.std.specs.Prelude.{ℕ, ◌+◌, ◌-◌, ◌^◌, ◌==◌, min, List, [], ◌∷◌, ◌++◌, length, sum_by, if◌then◌else◌, Option, None, Some, codes, decimal, ◌≡◌, Result, OnOk}
 use Rattle.fabric_core.specs.declared.tally.StreamEnd.{StreamEnd}
 use Rattle.fabric_core.specs.declared.tally.StreamEnd.TheVariants.{Drained, Broken, Undrained}
 use Rattle.fabric_core.specs.declared.tally.Tally.{Tally}
@@ -16,18 +15,22 @@ abbrev pub ◌&◌ : List ℕ → List ℕ → List ℕ
 xs & ys = xs ++ ys
 
 -- a call that answers Ok appends this to a text
-abbrev pub Pushes : {T E : Type 0} → Result T E → String Global → String Global → List ℕ → Type 0
-Pushes result old new text = OnOk result (string_bytes new ≡ string_bytes old ++ text)
+abbrev pub Pushes : {T E : Type 0} → Result T E → List ℕ → List ℕ → List ℕ → Type 0
+Pushes result old new text = OnOk result (new ≡ old ++ text)
 
 abbrev pub end_text : StreamEnd → List ℕ
 end_text Drained = codes "drained"
 end_text (Broken expected got) = codes "broken expected " & decimal expected & codes " got " & decimal got
 end_text (Undrained sent acked) = codes "undrained"
 
+-- stream S P>C
+abbrev pub route_text : Straight → ℕ → List ℕ
+route_text s k = codes "stream " & decimal k & codes " " & decimal s.from.0 & codes ">" & decimal s.to.0
+
 -- stream S P>C sent A delivered B acked D epochs E END
 abbrev pub stream_text : Straight → ℕ → StreamEnd → Tally → List ℕ
 stream_text s k end tally =
-    (codes "stream " & decimal k & codes " " & decimal s.from.0 & codes ">" & decimal s.to.0)
+    route_text s k
     & (codes " sent " & decimal tally.sent & codes " delivered " & decimal tally.delivered)
     & (codes " acked " & decimal tally.acked & codes " epochs " & decimal tally.epochs)
     & codes " " & end_text end & codes "\n"

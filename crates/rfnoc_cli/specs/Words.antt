@@ -1,18 +1,37 @@
 -- The words of the command line.
-use Rattle.std.specs.Prelude.{ℕ, List, [], ◌∷◌, ◌&&◌, if◌then◌else◌, Option, None, Some, codes, map, String, string_bytes}
+use Rattle.std.specs.Prelude.{ℕ, List, [], ◌∷◌, ◌&&◌, Bool, nat_le, nat_lt, slice_index, if◌then◌else◌, Option, None, Some, codes, map, String, string_bytes}
 use Rattle.std.specs.declared.alloc.Global.{Global}
+use Rattle.std.specs.List.{list_all}
 use Rattle.std.specs.Str.{bytes_eq}
+use Rattle.std.specs.Str.Parse.{digits_value}
 use Rattle.rfnoc_cli.specs.declared.words.Form.{Form}
-use Rattle.rfnoc_cli.specs.declared.words.Form.TheVariants.{RunOne, Show, Check}
+use Rattle.rfnoc_cli.specs.declared.words.Form.TheVariants.{RunOne, Show, Check, Pcap}
 
 -- `show`, `check`
 abbrev pub one_word : List ℕ → Option Form
 one_word word = if bytes_eq word (codes "show") then Some Show
     else if bytes_eq word (codes "check") then Some Check else None
 
--- `run --one`
+-- a decimal digit
+abbrev pub is_digit : ℕ → Bool
+is_digit byte = nat_le 48 byte && nat_le byte 57
+
+-- the number that digits write, if it has sixteen bits
+abbrev pub number_of : List ℕ → Option ℕ
+number_of text = if nat_lt (digits_value 10 text) 65536 then Some (digits_value 10 text) else None
+
+-- a port: decimal digits of which the first isn't 0, up to 65535
+abbrev pub port_of : List ℕ → Option ℕ
+port_of text = if nat_le 49 (slice_index text 0) && list_all is_digit text then number_of text else None
+
+abbrev pub port_form : Option ℕ → Option Form
+port_form None = None
+port_form (Some port) = Some (Pcap port)
+
+-- `run --one`, `pcap PORT`
 abbrev pub two_words : List ℕ → List ℕ → Option Form
-two_words first second = if bytes_eq first (codes "run") && bytes_eq second (codes "--one") then Some RunOne else None
+two_words first second = if bytes_eq first (codes "run") && bytes_eq second (codes "--one") then Some RunOne
+    else if bytes_eq first (codes "pcap") then port_form (port_of second) else None
 
 -- the form that the words are
 unfoldable pub form_of_texts : List (List ℕ) → Option Form

@@ -12,8 +12,8 @@ mod texts;
 mod top;
 mod words;
 
-pub use book::{Book, BookList, Books, Ends, Lines, RunBook, TakenLists, Tallies};
 pub use block_library::Line;
+pub use book::{Book, BookList, Books, Ends, Lines, RunBook, TakenLists, Tallies};
 pub use input::{SCRIPT_LIMIT, read_form};
 pub use run::run_one;
 pub use straight::Straight;
@@ -24,5 +24,7 @@ pub use top::rfnoc;
 mod capture_tests;
 #[cfg(test)]
 mod key_tests;
+#[cfg(test)]
+mod pcap_tests;
 #[cfg(test)]
 mod tests;

@@ -8,13 +8,13 @@ use crate::input::{InputFault, read_input};
 use crate::perform::{tell_refusal, tell_run};
 use crate::words::{Form, form_of_words};
 use crate::{BookList, Books};
-use capture_tool::{check_capture, show_capture};
+use capture_tool::{check_capture, show_capture, show_pcap};
 use rf_base::Items;
 use rf_outside::{Sink, Source};
 use std::alloc::Global;
 
 /// All that the program does: it runs a script on one thread and writes the report, or lists or
-/// checks a capture. The books are emptied first; the answer is the exit status.
+/// checks a capture, or lists a pcap file. The books are emptied first; it returns the exit status.
 ///
 /// Rule: docs/scripts-and-reports.md, "Statuses".
 pub fn rfnoc<S: Source, K: Sink>(
@@ -42,6 +42,7 @@ pub fn rfnoc<S: Source, K: Sink>(
         Some(Form::RunOne) => run_script(alloc, src, out, &mut books.list),
         Some(Form::Show) => show_capture(alloc, src, out),
         Some(Form::Check) => check_capture(alloc, src, out),
+        Some(Form::Pcap(port)) => show_pcap(alloc, src, out, port),
         None => 2,
     }
 }

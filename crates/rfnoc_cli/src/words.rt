@@ -1,5 +1,6 @@
-ghost use Rattle.std.specs.Prelude.{◌≡◌};
-ghost use Rattle.rfnoc_cli.specs.Words.{one_word, two_words, form_of_words};
+ghost use Rattle.std.specs.Prelude.{◌≡◌, ◌≤◌, IsTrue, slice_index};
+ghost use Rattle.std.specs.List.{list_all};
+ghost use Rattle.rfnoc_cli.specs.Words.{form_of_words, is_digit, number_of, one_word, port_form, port_of, two_words};
 
 /// What the words of the command line ask for.
 #[derive(Clone, Copy, Debug, PartialEq, Eq)]
@@ -7,6 +8,8 @@ pub enum Form {
     RunOne,
     Show,
     Check,
+    /// The datagrams of this UDP port, in a pcap file.
+    Pcap(u16),
 }
 
 /// The form that the words are.
@@ -38,7 +41,48 @@ fn two_words(first: &str, second: &str) -> Option<Form>
 {
     if first == "run" && second == "--one" {
         Some(Form::RunOne)
+    } else if first == "pcap" {
+        port_form(second)
     } else {
         None
+    }
+}
+
+fn port_form(text: &str) -> Option<Form>
+    ensures { result ≡ port_form (port_of text.now) }
+{
+    match port_of(text) {
+        Some(port) => Some(Form::Pcap(port)),
+        None => None,
+    }
+}
+
+/// A port's number: decimal digits without a sign or a leading zero, 1 to 65535.
+fn port_of(text: &str) -> Option<u16>
+    ensures { result ≡ port_of text.now }
+{
+    let bytes = text.as_bytes();
+    let first = bytes.first().copied().unwrap_or(0);
+    if first < b'1' || !all_digits(bytes) {
+        return None;
+    }
+    number_of(text)
+}
+
+fn all_digits(bytes: &[u8]) -> bool
+    ensures { result ≡ list_all is_digit bytes.now }
+{
+    bytes.iter().all(|byte| 48 <= *byte && *byte <= 57)
+}
+
+/// The number that digits write, if it has sixteen bits.
+fn number_of(text: &str) -> Option<u16>
+    requires first { 49 ≤ slice_index text.now 0 }
+    requires digits { IsTrue (list_all is_digit text.now) }
+    ensures { result ≡ number_of text.now }
+{
+    match text.parse::<u16>() {
+        Ok(port) => Some(port),
+        Err(_) => None,
     }
 }

@@ -6,5 +6,5 @@ use Rattle.rfnoc_cli.proofs.perform.tell_run.Goals as goal
 pub returns-in-Ok-clause-prefix : goal.returns-in-Ok-clause-prefix
 returns-in-Ok-clause-prefix g c = λ _.
     subst (AddsPrefix (g.K.Sink.written c.args.out.now) (g.K.Sink.written c.write_all.new.out))
-    (c.as_bytes.ensures.value ∙ c.in-Ok.ensures ∙ ap (report_of c.args.straight) c.as_slice.ensures)
+    (c.as_bytes.ensures ∙ c.in-Ok.ensures ∙ ap (report_of c.args.straight) c.as_slice.ensures)
     c.in-Err-write_all.ensures.prefix
