@@ -1,5 +1,5 @@
 -- What is read of bytes that may ask, and that an acknowledgement has a spelling.
-use Rattle.std.proofs.Common.{◌≡◌, ℕ, ◌+◌, ◌*◌, ◌/◌, ◌≤◌, Bool, true, false, List, [], length, take, Option, None, Some, Ok, sym, ap, subst, ◌∙◌, arith, inr, lit<, lit≤}
+use Rattle.std.proofs.Common.{◌≡◌, ℕ, ◌+◌, ◌*◌, ◌/◌, ◌<◌, ◌≤◌, ◌^◌, Bool, true, false, List, [], length, take, Option, None, Some, Ok, sym, ap, subst, ◌∙◌, arith, inr, lit≤}
 use Rattle.std.specs.Prelude.{if◌then◌else◌}
 use Rattle.std.proofs.lemmas.List.{length-map}
 use Rattle.std.proofs.lemmas.List.FromFn.{length-range_with_len}
@@ -13,10 +13,8 @@ use Rattle.chdr_packets.specs.declared.packet.Packet.{Packet}
 use Rattle.chdr_packets.specs.declared.packet.Body.{Body}
 use Rattle.chdr_packets.specs.declared.packet.Body.TheVariants as bodies
 use Rattle.block_registers.specs.Operations.{Place, accepts, acknowledgement, answer, outcome, reads_op, words_in, words_of}
-use Rattle.block_registers.specs.Registers.{Registers}
-use Rattle.block_registers.specs.Slots.{place_of}
 use Rattle.chdr_packets.specs.Grammar.{Spells}
-use Rattle.packet_uses.specs.Answered.{Requests, reply_of, request_of}
+use Rattle.packet_uses.specs.Answered.{Requests, request_of}
 
 -- the words of an answer are no more than those of its request, or one
 few : (b : Bool) (op : CtrlOp) (words : List ℕ) (addr : ℕ) (values : List ℕ) → length values ≤ 15 → length (words_in (if b then Some (reads_op op words addr values) else None)) ≤ 15
@@ -46,12 +44,6 @@ answer_fits me place request fits = record {
 short : (n : ℕ) → n ≤ 15 → 8 + (12 + 0 + 4 * n + 7) / 8 * 8 ≤ 65535
 short n le = omega arith
 
-pub reply_fits : (me : Epid) (slots : List (Option Registers)) (request : Control) → FitsControl request → FitsPacket (reply_of me slots request)
-unfolding acknowledgement
-reply_fits me slots request fits =
-    let f = answer_fits me (place_of slots (Some request.dst_port)) request fits in
-    record { vc = lit< tt; mdata = lit≤ tt; body = f; len = short (length (answer me (place_of slots (Some request.dst_port)) request).words) f.words }
-
 -- a body that is a request fits as one
 fits_as : (body : Body) (request : Control) → FitsBody body → request_of body ≡ Some request → FitsControl request
 fits_as (bodies.Samples time payload) request fits e = absurd cc
@@ -71,12 +63,19 @@ asked bytes packet size (Some request) within spells fits e = (record { packet =
 pub requests : (bytes : List ℕ) (packet : Packet) (size : ℕ) (found : Option Control) → size ≤ length bytes → Spells packet (take size bytes) → FitsPacket packet → found ≡ request_of packet.body → Requests bytes (Ok found)
 requests bytes packet size found within spells fits e = asked bytes packet size found within spells fits (sym e)
 
--- ---- the packet that goes back
+-- ---- a packet that carries an acknowledgement
 
-abbrev pub sent : Epid → List ℕ → Control → Packet
-sent to mdata control = record { vc = 1; eob = false; eov = false; seq = 0; dst = to; mdata = mdata; body = bodies.Control control }
+abbrev sent : ℕ → Epid → List ℕ → Control → Packet
+sent vc to mdata control = record { vc = vc; eob = false; eov = false; seq = 0; dst = to; mdata = mdata; body = bodies.Control control }
 
-pub sent_fits : (me : Epid) (slots : List (Option Registers)) (request : Control) (mdata : List ℕ) (control : Control) → FitsControl request → mdata ≡ [] → control ≡ answer me (place_of slots (Some request.dst_port)) request
-    → FitsPacket (sent request.src mdata control)
-sent_fits me slots request mdata control fits e f =
-    subst FitsPacket (sym (ap (λ (m : List ℕ). sent request.src m control) e ∙ ap (sent request.src []) f)) (reply_fits me slots request fits)
+answer_sent : (vc : ℕ) (to me : Epid) (place : Place) (request : Control) → vc < 2 ^ 6 → FitsControl request → FitsPacket (sent vc to [] (answer me place request))
+unfolding acknowledgement
+answer_sent vc to me place request channel fits =
+    let f = answer_fits me place request fits in
+    record { vc = channel; mdata = lit≤ tt; body = f; len = short (length (answer me place request).words) f.words }
+
+-- on any channel, to anyone, and for whatever stands at the port
+pub sent_fits : (vc : ℕ) (to me : Epid) (place : Place) (request control : Control) (mdata : List ℕ) → vc < 2 ^ 6 → FitsControl request → mdata ≡ [] → control ≡ answer me place request
+    → FitsPacket (record { vc = vc; eob = false; eov = false; seq = 0; dst = to; mdata = mdata; body = bodies.Control control })
+sent_fits vc to me place request control mdata channel fits e f =
+    subst FitsPacket (sym (ap (λ (m : List ℕ). sent vc to m control) e ∙ ap (sent vc to []) f)) (answer_sent vc to me place request channel fits)

@@ -1,3 +1,4 @@
+-- The lemmas of this crate.
 pub mod RespellLemmas
 pub mod CollectLemmas
 pub mod AnswerLemmas
