@@ -1,4 +1,6 @@
 mod Showing
 mod Sending
 mod Coming
+mod Taking
+mod Losing
 pub mod Laws

@@ -86,3 +86,46 @@ abbrev pub StatusesAct : Type 0
 StatusesAct = (w : State) (s q : ℕ) (closed : Bool) (st : OneStream Packet) (e : Entry) (rest : List Entry) (status : Status) (told : Told)
     → IsShown w s closed st → IsAtStart w s q e rest → e.packet.body ≡ body.Status status → e.tag ≡ Report told
     → Acts w (after w (event.Hop q)) s closed st
+
+-- A taking at an Rx takes what it takes of its stream.
+abbrev pub SeenActs : Type 0
+SeenActs = (w : State) (s n : ℕ) (closed : Bool) (st : OneStream Packet)
+    → IsShown w s closed st → IsTrue (enabled w (event.Seen s n)) → Acts w (after w (event.Seen s n)) s closed st
+
+-- the front entry e of queue q of the way of stream s, with those behind it
+pub record IsAhead (w : State) (s q : ℕ) (e : Entry) (rest : List Entry) : Type 0 where
+  pub forth : IsLedTo w (plan_at w.plan s).from (plan_at w.plan s).to
+  pub mine : stream_to w.plan (plan_at w.plan s).to ≡ Some s
+  pub front : queue_at w.queues q ≡ e ∷ rest
+  pub before : List ℕ
+  pub behind : List ℕ
+  pub way : forward_way w.tree (plan_at w.plan s) ≡ before ++ q ∷ behind
+  pub dst : e.packet.dst ≡ (plan_at w.plan s).to
+
+-- Samples that are lost on their way are lost to their stream.
+abbrev pub SamplesLost : Type 0
+SamplesLost = (w : State) (s q : ℕ) (closed : Bool) (st : OneStream Packet) (e : Entry) (rest : List Entry) (time : Option ℕ) (payload : List ℕ) (place : ℕ)
+    → IsShown w s closed st → IsAhead w s q e rest → e.packet.body ≡ body.Samples time payload → e.tag ≡ Sample place
+    → Acts w (after w (event.Lose q)) s closed st
+
+-- So are commands.
+abbrev pub CommandsLost : Type 0
+CommandsLost = (w : State) (s q : ℕ) (closed : Bool) (st : OneStream Packet) (e : Entry) (rest : List Entry) (c : Command) (counts : Count)
+    → IsShown w s closed st → IsAhead w s q e rest → e.packet.body ≡ body.Command c → e.tag ≡ Order counts
+    → Acts w (after w (event.Lose q)) s closed st
+
+-- the front entry e of queue q of the way back of stream s, with those behind it
+pub record IsBehind (w : State) (s q : ℕ) (e : Entry) (rest : List Entry) : Type 0 where
+  pub back : IsLedTo w (plan_at w.plan s).to (plan_at w.plan s).from
+  pub mine : stream_from w.plan (plan_at w.plan s).from ≡ Some s
+  pub front : queue_at w.queues q ≡ e ∷ rest
+  pub before : List ℕ
+  pub behind : List ℕ
+  pub way : back_way w.tree (plan_at w.plan s) ≡ before ++ q ∷ behind
+  pub dst : e.packet.dst ≡ (plan_at w.plan s).from
+
+-- And statuses, on the way back.
+abbrev pub StatusesLost : Type 0
+StatusesLost = (w : State) (s q : ℕ) (closed : Bool) (st : OneStream Packet) (e : Entry) (rest : List Entry) (status : Status) (told : Told)
+    → IsShown w s closed st → IsBehind w s q e rest → e.packet.body ≡ body.Status status → e.tag ≡ Report told
+    → Acts w (after w (event.Lose q)) s closed st

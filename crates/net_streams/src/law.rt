@@ -1,4 +1,4 @@
-ghost use Rattle.net_streams.specs.Acting.{CommandsAct, EnterActs, ReportActs, SamplesAct, StatusesAct, UnseenShows};
+ghost use Rattle.net_streams.specs.Acting.{CommandsAct, CommandsLost, EnterActs, ReportActs, SamplesAct, SamplesLost, SeenActs, StatusesAct, StatusesLost, UnseenShows};
 
 /// What a stream doesn't see changes nothing of what the network shows of it.
 pub fn what_is_unseen_changes_nothing()
@@ -16,4 +16,16 @@ pub fn what_comes_is_an_act()
     ensures samples { SamplesAct }
     ensures commands { CommandsAct }
     ensures statuses { StatusesAct }
+{}
+
+/// A taking at an Rx is an act of its stream.
+pub fn what_is_taken_is_an_act()
+    ensures { SeenActs }
+{}
+
+/// A packet, a command and a status that are lost on their way are losses of their stream.
+pub fn what_is_lost_is_an_act()
+    ensures samples { SamplesLost }
+    ensures commands { CommandsLost }
+    ensures statuses { StatusesLost }
 {}
