@@ -28,7 +28,7 @@ impl Copyable for Act {
             Act::Control { at, to, request } => Ok(Act::Control {
                 at: *at,
                 to: *to,
-                request: request.copy()?,
+                request: request.copy(),
             }),
             Act::Unload { at, port } => Ok(Act::Unload {
                 at: *at,
