@@ -1,4 +1,4 @@
-//! The language of scripts: reading them, and the generated one.
+//! The language of scripts: reading them, writing them, and the generated one.
 #![tactic(auto)]
 
 mod generated;
@@ -8,3 +8,7 @@ pub use rf_script_reader::read_script;
 pub use rf_script_types::{
     Act, Acts, Due, Field, SCRIPT_LIMIT, Script, ScriptCommand, ScriptCommands, ScriptFault, Why,
 };
+pub use rf_script_writer::encode_script;
+
+#[cfg(test)]
+mod tests;
