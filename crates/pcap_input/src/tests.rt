@@ -185,10 +185,7 @@ fn a_header_is_refused_by_its_first_test_that_fails(rt: HostRuntime) -> Result<(
         header[at] = value;
         let mut reader = PcapReader::new(rt.alloc(), 1);
         reader.feed(&header)?;
-        let fault = PcapFault::Bad { at: 0, reason };
-        assert!(rt; reader.next() == Err(fault));
-        reader.feed(&FRAME)?;
-        assert!(rt; reader.next() == Err(fault));
+        assert!(rt; reader.next() == Err(PcapFault::Bad { at: 0, reason }));
     }
     let mut header = HEADER;
     header[22] = 1;
