@@ -77,12 +77,12 @@ kind_number kind.Sink = None
 
 -- a side without ports has no field
 abbrev pub with_ends : Field → List Epid → Members → Members
-with_ends side [] ms = ms
-with_ends side (epid ∷ epids) ms = with side (list end_text (epid ∷ epids)) ms
+with_ends label [] ms = ms
+with_ends label (epid ∷ epids) ms = with label (list end_text (epid ∷ epids)) ms
 
 abbrev pub with_optional : Field → Option ℕ → Members → Members
-with_optional name None ms = ms
-with_optional name (Some n) ms = with name (whole n) ms
+with_optional label None ms = ms
+with_optional label (Some n) ms = with label (whole n) ms
 
 abbrev pub packet_count : BlockKind → ℕ → Option ℕ
 packet_count kind.Tx n = Some n
