@@ -13,7 +13,7 @@ use Rattle.chdr_stream.specs.declared.placed.Placed.{Placed}
 use Rattle.chdr_stream.specs.declared.placed.Passed.{Passed}
 use Rattle.chdr_stream.specs.declared.placed.StreamFault.{StreamFault}
 use Rattle.chdr_stream.specs.declared.placed.StreamFault.TheVariants.{Bad}
-use Rattle.chdr_stream.specs.Capture.{Reason, bad, Capture, behind}
+use Rattle.chdr_stream.specs.Capture.{Reason, reason_of, Capture, behind}
 use Rattle.chdr_stream.specs.Stream.{Stream, reading, answer_at, after, past}
 use Rattle.chdr_stream.specs.Calls.{answer_of, given}
 use Rattle.chdr_stream.specs.Laws.{without_packet}
@@ -105,12 +105,12 @@ none_reads s (Err fault) e = absurd cc
 pub at_none : (s new : Stream) → answer_of s ≡ Ok None → new ≡ after s (reading s) → IsAt None new
 at_none s new e a = let is = none_reads s (reading s) e in ap reading (a ∙ ap (after s) is) ∙ is
 
-pub at_fault : (s new : Stream) (at : ℕ) (fault : PacketFault) (found : Fault) → found ≡ record { at = at; why = why_of fault } → answer_of s ≡ stands at fault → new ≡ after s (reading s) → IsAt (Some found) new
+pub at_fault : (s new : Stream) (at : ℕ) (fault : PacketFault) (found : Fault) → found ≡ record { at = at; why = why_of (reason_of fault) } → answer_of s ≡ stands at fault → new ≡ after s (reading s) → IsAt (Some found) new
 at_fault s new at fault found is e a = (
   fault,
   sym (ap (λ (f : Fault). f.why) is),
   λ more. ap (λ (x : Stream). rest_of x more) a ∙ sym (ap (λ (r : Result (Option Placed) StreamFault). behind (given r) (rest_of (after s (reading s)) more)) e) ∙ sym (shows_given s more) ∙ shows_fault s more at fault e
-      ∙ ap (λ (k : ℕ). capture [] (Some (k, bad fault))) (sym (ap (λ (f : Fault). f.at) is)),
+      ∙ ap (λ (k : ℕ). capture [] (Some (k, reason_of fault))) (sym (ap (λ (f : Fault). f.at) is)),
 )
 
 -- ---- what is only passed

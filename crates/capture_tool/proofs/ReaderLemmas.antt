@@ -4,9 +4,11 @@ use Rattle.std.specs.Prelude.{IsSome}
 use Rattle.std.proofs.lemmas.Bool.{lt-ltb, le-ltb, ltb-true, ltb-false}
 use Rattle.std.proofs.lemmas.List.{append-nil, length-append}
 use Rattle.rf_outside.specs.Pieces.{Ends, IsSettled, ReadsOn}
+use Rattle.chdr_words.specs.declared.fault.MsgFault.TheVariants as messages
 use Rattle.chdr_packets.specs.declared.fault.PacketFault.{PacketFault}
+use Rattle.chdr_packets.specs.declared.fault.PacketFault.TheVariants as packets
 use Rattle.chdr_stream.specs.declared.placed.Placed.{Placed}
-use Rattle.chdr_stream.specs.Capture.{Reason, bad, truncated, Capture, behind}
+use Rattle.chdr_stream.specs.Capture.{Reason, reason_of, truncated, Capture, behind}
 use Rattle.chdr_stream.specs.Stream.{Stream, fed_with}
 use Rattle.chdr_stream.specs.Rest.{rest_of}
 use Rattle.chdr_stream.specs.Calls.{opened}
@@ -117,8 +119,18 @@ counts_on d d1 d2 counts counted room piece page le fed c = record {
 abbrev fault_now : ℕ → Why → Option Fault
 fault_now at why = Some (record { at = at; why = why })
 
-stuck_fault : (fault : Fault) (reason : PacketFault) (long : Bool) (c : Capture) → why_of reason ≡ fault.why → c ≡ capture [] (Some (fault.at, bad reason)) → fault_within long c.fault ≡ Some fault
-stuck_fault fault reason long c why is = ap (λ (x : Capture). fault_within long x.fault) is ∙ ap (fault_now fault.at) why
+within_fault : (fault : PacketFault) (long : Bool) (at : ℕ) → fault_within long (Some (at, reason_of fault)) ≡ fault_now at (why_of (reason_of fault))
+within_fault packets.ReservedType long at = refl
+within_fault packets.BadLength long at = refl
+within_fault (packets.Message messages.BadStatusLength) long at = refl
+within_fault (packets.Message messages.BadCommandLength) long at = refl
+within_fault (packets.Message messages.BadControlLength) long at = refl
+within_fault (packets.Message messages.BadManagement) long at = refl
+within_fault (packets.Message messages.Memory) long at = refl
+within_fault packets.Memory long at = refl
+
+stuck_fault : (fault : Fault) (reason : PacketFault) (long : Bool) (c : Capture) → why_of (reason_of reason) ≡ fault.why → c ≡ capture [] (Some (fault.at, reason_of reason)) → fault_within long c.fault ≡ Some fault
+stuck_fault fault reason long c why is = ap (λ (x : Capture). fault_within long x.fault) is ∙ within_fault reason long fault.at ∙ ap (fault_now fault.at) why
 
 pub settled_fault : (fault : Fault) (d : Stream) (room : ℕ) (more : List ℕ) → IsAt (Some fault) d → fault_after d room more ≡ Some fault
 settled_fault fault d room more (reason, why, stands) = stuck_fault fault reason (ltb room (length more)) (rest_of d (take room more)) why (stands (take room more))

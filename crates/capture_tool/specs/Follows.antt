@@ -2,7 +2,7 @@
 use Rattle.std.specs.Prelude.{◌≡◌, ℕ, ◌+◌, ◌*◌, ◌≤◌, ◌==◌, nat_lt, Bool, if◌then◌else◌, List, [], ◌++◌, length, take, Option, None, Some, Result, Ok, Err}
 use Rattle.chdr_packets.specs.declared.fault.PacketFault.{PacketFault}
 use Rattle.chdr_stream.specs.declared.placed.Placed.{Placed}
-use Rattle.chdr_stream.specs.Capture.{bad, behind}
+use Rattle.chdr_stream.specs.Capture.{behind, reason_of}
 use Rattle.chdr_stream.specs.Stream.{Stream, reading}
 use Rattle.chdr_stream.specs.Rest.{rest_of}
 use Rattle.capture_tool.specs.declared.seen.Counts.{Counts}
@@ -70,8 +70,8 @@ pub record CountsOn (old new : Stream) (counts counted : Counts) : Type 0 where
 -- it gives no more: no whole packet is left, or this fault stands, whatever follows
 abbrev pub IsAt : Option Fault → Stream → Type 0
 IsAt None d = reading d ≡ Ok None
-IsAt (Some fault) d = (reason : PacketFault) × (why_of reason ≡ fault.why)
-    × ((more : List ℕ) → rest_of d more ≡ record { items = []; fault = Some (fault.at, bad reason) })
+IsAt (Some fault) d = (reason : PacketFault) × (why_of (reason_of reason) ≡ fault.why)
+    × ((more : List ℕ) → rest_of d more ≡ record { items = []; fault = Some (fault.at, reason_of reason) })
 
 -- one packet more
 abbrev pub one_more : Counts → Bool → Counts

@@ -1,11 +1,8 @@
 -- What a capture shows within its first 2^30 bytes: its packets, and where and why it ends early.
-use Rattle.std.specs.Prelude.{ℕ, Bool, nat_lt, if◌then◌else◌, List, length, take, Option, None, Some}
+use Rattle.std.specs.Prelude.{ℕ, Bool, true, false, ◌&&◌, nat_lt, if◌then◌else◌, List, length, take, Option, None, Some}
 use Rattle.std.specs.List.{count_by}
-use Rattle.chdr_words.specs.declared.fault.MsgFault.TheVariants as messages
-use Rattle.chdr_packets.specs.declared.fault.PacketFault.{PacketFault}
-use Rattle.chdr_packets.specs.declared.fault.PacketFault.TheVariants as faults
 use Rattle.chdr_stream.specs.declared.placed.Placed.{Placed}
-use Rattle.chdr_stream.specs.Capture.{Reason, bad, truncated, capture_of}
+use Rattle.chdr_stream.specs.Capture.{Reason, reserved_type, bad_length, bad_status_length, bad_command_length, bad_control_length, bad_management, truncated, capture_of}
 use Rattle.capture_tool.specs.declared.seen.Counts.{Counts}
 use Rattle.capture_tool.specs.declared.seen.Seen.{Seen}
 use Rattle.capture_tool.specs.declared.seen.Fault.{Fault}
@@ -16,22 +13,30 @@ use Rattle.capture_tool.specs.declared.seen.Why.TheVariants.{ReservedType, BadLe
 abbrev pub limit : ℕ
 limit = 1073741824
 
--- the reason of a packet's fault; reading never finds that memory ran out
-abbrev pub why_of : PacketFault → Why
-why_of faults.ReservedType = ReservedType
-why_of faults.BadLength = BadLength
-why_of (faults.Message messages.BadStatusLength) = BadStatusLength
-why_of (faults.Message messages.BadCommandLength) = BadCommandLength
-why_of (faults.Message messages.BadControlLength) = BadControlLength
-why_of (faults.Message messages.BadManagement) = BadManagement
-why_of (faults.Message messages.Memory) = Truncated
-why_of faults.Memory = Truncated
+-- the word for the reason of a capture's fault
+abbrev pub why_of : Reason → Why
+why_of reserved_type = ReservedType
+why_of bad_length = BadLength
+why_of bad_status_length = BadStatusLength
+why_of bad_command_length = BadCommandLength
+why_of bad_control_length = BadControlLength
+why_of bad_management = BadManagement
+why_of truncated = Truncated
+
+-- whether it is a packet that isn't whole
+abbrev pub is_truncated : Reason → Bool
+is_truncated reserved_type = false
+is_truncated bad_length = false
+is_truncated bad_status_length = false
+is_truncated bad_command_length = false
+is_truncated bad_control_length = false
+is_truncated bad_management = false
+is_truncated truncated = true
 
 -- a capture that goes on past the limit is too long, unless it has the fault of a packet before it
 abbrev pub fault_within : Bool → Option (ℕ × Reason) → Option Fault
 fault_within long None = if long then Some (record { at = limit; why = TooLong }) else None
-fault_within long (Some (at, bad fault)) = Some (record { at = at; why = why_of fault })
-fault_within long (Some (at, truncated)) = if long then Some (record { at = limit; why = TooLong }) else Some (record { at = at; why = Truncated })
+fault_within long (Some (at, reason)) = if is_truncated reason && long then Some (record { at = limit; why = TooLong }) else Some (record { at = at; why = why_of reason })
 
 -- the packets within the limit
 abbrev pub items_of : List ℕ → List Placed

@@ -1,5 +1,6 @@
 //! The packets that a decoder has, listed or counted.
 ghost use Rattle.std.specs.Prelude.{◌≡◌, ◌+◌, ◌≤◌, ◌<◌, ◌^◌, length, ◌++◌, Ok, None, Some, IfOk, OnOk, IsSome};
+ghost use Rattle.chdr_stream.specs.Capture.{reason_of};
 ghost use Rattle.capture_tool.specs.Follows.{CountsOn, IsAt, IsWithin, Lists, last_fault, long_fault, one_more};
 ghost use Rattle.capture_tool.specs.Listing.{line_of, ops_of};
 ghost use Rattle.capture_tool.specs.Seen.{why_of};
@@ -83,7 +84,7 @@ fn one_more(counts: Counts, canonical: bool) -> Counts
 }
 
 fn fault_at(at: u64, fault: PacketFault) -> Fault
-    ensures { result ≡ record { at = at; why = why_of fault } }
+    ensures { result ≡ record { at = at; why = why_of (reason_of fault) } }
 {
     Fault {
         at,

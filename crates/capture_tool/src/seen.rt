@@ -1,4 +1,5 @@
 ghost use Rattle.std.specs.Prelude.{◌≡◌};
+ghost use Rattle.chdr_stream.specs.Capture.{reason_of};
 ghost use Rattle.capture_tool.specs.Outcome.{status_of};
 ghost use Rattle.capture_tool.specs.Seen.{why_of};
 
@@ -68,9 +69,9 @@ pub fn status_of(fault: Option<Fault>) -> u8
     }
 }
 
-/// The reason of a packet's fault; reading never finds that memory ran out.
+/// The word for a packet's fault; reading never finds that memory ran out.
 pub fn why_of(fault: PacketFault) -> Why
-    ensures { result ≡ why_of fault }
+    ensures { result ≡ why_of (reason_of fault) }
 {
     match fault {
         PacketFault::ReservedType => Why::ReservedType,
@@ -78,7 +79,8 @@ pub fn why_of(fault: PacketFault) -> Why
         PacketFault::Message(MsgFault::BadStatusLength) => Why::BadStatusLength,
         PacketFault::Message(MsgFault::BadCommandLength) => Why::BadCommandLength,
         PacketFault::Message(MsgFault::BadControlLength) => Why::BadControlLength,
-        PacketFault::Message(MsgFault::BadManagement) => Why::BadManagement,
-        PacketFault::Message(MsgFault::Memory) | PacketFault::Memory => Why::Truncated,
+        PacketFault::Message(MsgFault::BadManagement | MsgFault::Memory) | PacketFault::Memory => {
+            Why::BadManagement
+        }
     }
 }

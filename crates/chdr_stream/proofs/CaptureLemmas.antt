@@ -11,9 +11,9 @@ use Rattle.chdr_packets.specs.declared.packet.Packet.{Packet}
 use Rattle.chdr_packets.specs.Laws.{IsBytes}
 use Rattle.chdr_packets.proofs.Laws.{read_within, read_spelled, read_marked, read_stands, reads_back}
 use Rattle.chdr_stream.specs.declared.placed.Placed.{Placed}
-use Rattle.chdr_stream.specs.Capture.{IsCaptureOf, Reason, bad, truncated, Capture, behind, capture_from}
+use Rattle.chdr_stream.specs.Capture.{IsCaptureOf, Reason, reason_of, truncated, Capture, behind, capture_from}
 use Rattle.chdr_stream.specs.Places.{packets_of, IsPlaced, ArePlaced}
-use Rattle.chdr_stream.proofs.ReasonLemmas.{Finds}
+use Rattle.chdr_stream.proofs.ReasonLemmas.{Finds, finds_fault}
 use Rattle.chdr_stream.proofs.StreamLemmas.{found, capture-part, capture-bad, capture-cut, marked, with_items}
 
 -- ---- bytes
@@ -135,7 +135,7 @@ shows (suc most) at (x ∷ b) le small = cases (λ k c less small. shows most k 
         let less : length (drop n (x ∷ b)) ≤ most = omega (arith, length-drop n (x ∷ b), t.0, t.1) in
         subst (Shows at (x ∷ b)) (sym (capture-part at (x ∷ b) p n is))
         (shows_part at (x ∷ b) p n small is (more (at + n) (drop n (x ∷ b)) less (drop_bytes n (x ∷ b) small)))
-    cases more (Err fault) is = subst (Shows at (x ∷ b)) (sym (capture-bad at (x ∷ b) fault is)) (shows_fault at (x ∷ b) (bad fault) is)
+    cases more (Err fault) is = subst (Shows at (x ∷ b)) (sym (capture-bad at (x ∷ b) fault is)) (shows_fault at (x ∷ b) (reason_of fault) (finds_fault fault (x ∷ b) small is))
 
 pub shows_bytes : (at : ℕ) (b : List ℕ) → IsBytes b → Shows at b (capture_from 0 at b)
 shows_bytes at b small = shows (length b) at b (omega arith) small

@@ -13,13 +13,14 @@ use Rattle.chdr_stream.specs.declared.placed.StreamFault.{StreamFault}
 use Rattle.chdr_stream.specs.declared.placed.StreamFault.TheVariants.{Bad, Memory}
 use Rattle.chdr_stream.specs.declared.placed.FinishFault.{FinishFault}
 use Rattle.chdr_stream.specs.declared.placed.FinishFault.TheVariants as finishes
-use Rattle.chdr_stream.specs.Capture.{Reason, bad, truncated, Capture, behind, capture_from, capture_of}
+use Rattle.chdr_stream.specs.Capture.{Reason, reason_of, truncated, Capture, behind, capture_from, capture_of}
 use Rattle.chdr_stream.specs.Places.{IsPlaced, ArePlaced}
 use Rattle.chdr_stream.specs.Stream.{Stream, fed_with, reading, answer_at, after, passing_at, released}
 use Rattle.chdr_stream.specs.Calls.{Call, feeds, asks, fails, opened, with_call, given, given_with, fed_with_call, with_calls, decoder_of, given_from, given_by, fed_by, IsRead, FindsNone, IsDrained, stop_at}
 use Rattle.chdr_stream.specs.Laws.{KeepsRest, NamesFault, NamesCut, EndsWhole, IsAnyCut, StaysAtFault, IsACall, PassTells, without_packet}
 use Rattle.chdr_stream.proofs.StreamLemmas.{found, with_items, marked, capture-bad, capture-cut}
 use Rattle.chdr_packets.specs.Laws.{IsBytes}
+use Rattle.chdr_stream.proofs.ReasonLemmas.{IsOfReason, known}
 use Rattle.chdr_stream.proofs.CaptureLemmas.{front_bytes, back_bytes, placed_shown, one_placed}
 use Rattle.chdr_stream.proofs.FaultLemmas.{capture_none, first_shown}
 
@@ -109,6 +110,21 @@ cut_calls (call ∷ calls) fed items s small c =
 pub cut : (calls : List Call) → IsBytes (fed_by calls) → Cut (fed_by calls) (given_by calls) (decoder_of calls)
 cut calls small = cut_calls calls [] [] opened small (record { front = []; rest = []; whole = refl; place = refl; placed = refl; stands = refl })
 
+-- the fault at which it stands is one that bytes have
+stands_of : (at : ℕ) (kept : List ℕ) (fault : Option PacketFault) (held : ℕ) (rest : List ℕ) → IsBytes rest → Stands fault kept rest → IsOfReason (reading (state at kept fault held))
+stands_of at kept (Some fault) held rest all stands = known fault rest all stands
+stands_of at kept None held rest all stands = cases (packet_read kept) refl
+  where
+    cases : (r : Result (Option (Packet × ℕ)) PacketFault) → packet_read kept ≡ r → IsOfReason r
+    cases (Ok found) is = tt
+    cases (Err fault) is = known fault rest all (ap packet_read stands ∙ is)
+
+pub of_reason : (calls : List Call) → IsBytes (fed_by calls) → IsOfReason (reading (decoder_of calls))
+of_reason calls all =
+    let s = decoder_of calls in
+    let c = cut calls all in
+    stands_of s.at s.kept s.fault s.held c.rest (back_bytes c.front c.rest (subst IsBytes c.whole all)) c.stands
+
 -- ---- the laws
 
 keeps : (fed : List ℕ) (items : List Placed) (at : ℕ) (kept : List ℕ) (fault : Option PacketFault) (held : ℕ) → fault ≡ None → Cut fed items (state at kept fault held) → IsRead fed items at kept
@@ -122,14 +138,14 @@ keeps_rest calls all none =
 
 -- what is shown where the bytes behind the packets given have a fault, whatever follows
 shown_bad : (fed more : List ℕ) (items : List Placed) (s : Stream) (c : Cut fed items s) (fault : PacketFault) → IsBytes fed → packet_read c.rest ≡ Err fault
-    → capture_of (fed ++ more) ≡ with_items items (Some (s.at, bad fault))
+    → capture_of (fed ++ more) ≡ with_items items (Some (s.at, reason_of fault))
 shown_bad fed more items s c fault small e =
     let place : 0 + length c.front ≡ s.at = omega (arith, c.place) in
     ap (λ (l : List ℕ). capture_of (l ++ more)) c.whole ∙ ap capture_of (append_assoc c.front c.rest more)
     ∙ placed_shown 0 items c.front (c.rest ++ more) (front_bytes c.front c.rest (subst IsBytes c.whole small)) c.placed
     ∙ ap (λ (k : ℕ). behind items (capture_from 0 k (c.rest ++ more))) place
     ∙ ap (behind items) (capture-bad s.at (c.rest ++ more) fault (fault_stands c.rest more fault e))
-    ∙ ap (λ (l : List Placed). with_items l (Some (s.at, bad fault))) (append-nil items)
+    ∙ ap (λ (l : List Placed). with_items l (Some (s.at, reason_of fault))) (append-nil items)
 
 -- an answered fault stands behind the packets given
 record Answered (s : Stream) (rest : List ℕ) (at : ℕ) (fault : PacketFault) : Type 0 where
@@ -159,12 +175,12 @@ names_fault calls more at fault all e =
     let small : IsBytes fed = front_bytes fed more all in
     let c = cut calls small in
     let a = bad_answer s.at s.kept s.fault s.held c.rest at fault c.stands e in
-    let is : capture_of (fed ++ more) ≡ with_items (given_by calls) (Some (at, bad fault)) =
-    shown_bad fed more (given_by calls) s c fault small a.read ∙ ap (λ (k : ℕ). with_items (given_by calls) (Some (k, bad fault))) (sym a.place) in
+    let is : capture_of (fed ++ more) ≡ with_items (given_by calls) (Some (at, reason_of fault)) =
+    shown_bad fed more (given_by calls) s c fault small a.read ∙ ap (λ (k : ℕ). with_items (given_by calls) (Some (k, reason_of fault))) (sym a.place) in
     let front : c.front ≡ take at (fed ++ more) =
     sym (take-append_seam c.front (c.rest ++ more)) ∙ ap (λ (k : ℕ). take k (c.front ++ (c.rest ++ more))) (sym (a.place ∙ c.place))
     ∙ ap (take at) (sym (ap (λ (l : List ℕ). l ++ more) c.whole ∙ append_assoc c.front c.rest more)) in
-    (first_shown (fed ++ more) at (bad fault) all (ap (λ (x : Capture). x.fault) is), subst (ArePlaced 0 (given_by calls)) front c.placed)
+    (first_shown (fed ++ more) at (reason_of fault) all (ap (λ (x : Capture). x.fault) is), subst (ArePlaced 0 (given_by calls)) front c.placed, known fault c.rest (back_bytes c.front c.rest (subst IsBytes c.whole small)) a.read)
 
 abbrev ending : Bool → ℕ → Option (ℕ × Reason)
 ending none at = cond none None (Some (at, truncated))
@@ -186,7 +202,7 @@ shown_rest fed items at kept held small is c =
     ∙ ap (behind items) (rest_shown at kept held is)
     ∙ ap (λ (l : List Placed). with_items l (stop_at (state at kept None held) (Ok None))) (append-nil items)
 
-bad_shown : (fed : List ℕ) (items : List Placed) (s : Stream) (c : Cut fed items s) (fault : PacketFault) → IsBytes fed → packet_read c.rest ≡ Err fault → capture_of fed ≡ with_items items (Some (s.at, bad fault))
+bad_shown : (fed : List ℕ) (items : List Placed) (s : Stream) (c : Cut fed items s) (fault : PacketFault) → IsBytes fed → packet_read c.rest ≡ Err fault → capture_of fed ≡ with_items items (Some (s.at, reason_of fault))
 bad_shown fed items s c fault small e = ap capture_of (sym (append-nil fed)) ∙ shown_bad fed [] items s c fault small e
 
 drained_shown : (fed : List ℕ) (items : List Placed) (at : ℕ) (kept : List ℕ) (fault : Option PacketFault) (held : ℕ) → IsBytes fed → IsDrained (state at kept fault held) → Cut fed items (state at kept fault held)

@@ -1,16 +1,14 @@
 -- The fault shown of bytes is the first fault, by the captures among their fronts.
-use Rattle.std.proofs.Common.{◌≡◌, ℕ, ◌+◌, ◌≤◌, ◌⊎◌, inl, inr, List, [], ◌++◌, length, take, drop, Option, None, Some, Result, Ok, Err, refl, sym, ap, subst, ◌∙◌, arith}
-use Rattle.std.proofs.lemmas.List.{append-nil, nil_from_length, length-drop, length-take-le, take-append-drop, take_all}
-use Rattle.chdr_packets.specs.Reading.{packet_read}
-use Rattle.chdr_packets.specs.declared.fault.PacketFault.{PacketFault}
+use Rattle.std.proofs.Common.{◌≡◌, ℕ, ◌+◌, ◌≤◌, ◌⊎◌, inl, inr, List, [], ◌++◌, length, take, drop, Option, None, Some, refl, sym, ap, subst, ◌∙◌, arith}
+use Rattle.std.proofs.lemmas.List.{append-nil, length-drop, length-take-le, take-append-drop, take_all}
 use Rattle.chdr_packets.specs.declared.packet.Packet.{Packet}
-use Rattle.chdr_stream.specs.Capture.{IsCaptureOf, Reason, bad, truncated, Capture, behind, capture_from, capture_of}
+use Rattle.chdr_stream.specs.Capture.{IsCaptureOf, Reason, Capture, behind, capture_from, capture_of}
 use Rattle.chdr_stream.specs.FirstFault.{IsLongestFront, IsFirstFault}
 use Rattle.chdr_stream.specs.Places.{packets_of, ArePlaced}
 use Rattle.chdr_stream.specs.Laws.{shown, end_of, ShowsCaptures, ShowsOnly, ShowsFirstFault, ShowsLongest, ShowsPlaces, IsWholeOrFaulty, HasNone, HasOne}
-use Rattle.chdr_stream.proofs.StreamLemmas.{nothing_read, with_items}
+use Rattle.chdr_stream.proofs.StreamLemmas.{with_items}
 use Rattle.chdr_packets.specs.Laws.{IsBytes}
-use Rattle.chdr_stream.proofs.ReasonLemmas.{Finds, finds_fails, fails_finds}
+use Rattle.chdr_stream.proofs.ReasonLemmas.{Finds, finds_fails, fails_finds, finds_once}
 use Rattle.chdr_stream.proofs.CaptureLemmas.{take_bytes, drop_bytes, places_of, placed_capture, placed_shown, StopsBy, Shows, shows_bytes}
 
 -- ---- the packets shown
@@ -90,31 +88,15 @@ first_shown b at reason all e =
     let place : s.size ≡ at = omega (arith, stops.0) in
     record { packets = shown b; longest = shows_longest b at reason all e; fails = finds_fails reason (drop at b) (drop_bytes at b all) (subst (λ (n : ℕ). Finds reason (drop n b)) place stops.1) }
 
--- bytes fail by one reason alone, and no bytes by none
-fails_once : (r q : Reason) (b : List ℕ) → Finds r b → Finds q b → r ≡ q
-fails_once (bad f) (bad g) b x y = ap bad (same_fault f g (sym x ∙ y))
-  where
-    same_fault : (f g : PacketFault) → ◌≡◌ {A = Result (Option (Packet × ℕ)) PacketFault} (Err f) (Err g) → f ≡ g
-    same_fault f g e = cc
-fails_once (bad f) truncated b x y = absurd (apart f (sym x ∙ y.0))
-  where
-    apart : (f : PacketFault) → ◌≡◌ {A = Result (Option (Packet × ℕ)) PacketFault} (Err f) (Ok None) → ⊥
-    apart f e = cc
-fails_once truncated (bad g) b x y = absurd (apart g (sym y ∙ x.0))
-  where
-    apart : (f : PacketFault) → ◌≡◌ {A = Result (Option (Packet × ℕ)) PacketFault} (Err f) (Ok None) → ⊥
-    apart f e = cc
-fails_once truncated truncated b x y = refl
-
+-- of no bytes none is found
 fails_some : (r : Reason) (b : List ℕ) → length b ≡ 0 → Finds r b → ⊥
-fails_some (bad f) b none x = nothing_read f (ap packet_read (sym (nil_from_length b none)) ∙ x)
-fails_some truncated b none x = omega (arith, none, x.1)
+fails_some r b none x = omega (arith, none, x.1)
 
 fault_is : (fault : Option (ℕ × Reason)) (at : ℕ) (reason : Reason) (b : List ℕ) → at ≤ length b → StopsBy fault 0 at b → Finds reason (drop at b) → fault ≡ Some (at, reason)
 fault_is None at reason b le stops fails = absurd (fails_some reason (drop at b) (omega (arith, length-drop at b, stops)) fails)
 fault_is (Some (place, other)) at reason b le stops fails =
     let here : place ≡ at = omega (arith, stops.0) in
-    ap (λ (k : ℕ). Some (k, other)) here ∙ ap (λ (r : Reason). Some (at, r)) (fails_once other reason (drop at b) stops.1 fails)
+    ap (λ (k : ℕ). Some (k, other)) here ∙ ap (λ (r : Reason). Some (at, r)) (finds_once other reason (drop at b) stops.1 fails)
 
 shown_first : (b : List ℕ) (at : ℕ) (reason : Reason) → IsBytes b → IsFirstFault b at reason → (capture_of b).fault ≡ Some (at, reason)
 shown_first b at reason small first =

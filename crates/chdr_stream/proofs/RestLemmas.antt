@@ -8,7 +8,7 @@ use Rattle.chdr_packets.specs.declared.fault.PacketFault.{PacketFault}
 use Rattle.chdr_packets.specs.declared.packet.Packet.{Packet}
 use Rattle.chdr_packets.proofs.Laws.{read_within, read_stands, fault_stands}
 use Rattle.chdr_stream.specs.declared.placed.StreamFault.TheVariants.{Bad}
-use Rattle.chdr_stream.specs.Capture.{bad, truncated, behind, capture_from}
+use Rattle.chdr_stream.specs.Capture.{reason_of, truncated, behind, capture_from}
 use Rattle.chdr_stream.specs.Stream.{Stream, fed_with, reading, after, answer_at}
 use Rattle.chdr_stream.specs.Calls.{answer_of, given}
 use Rattle.chdr_stream.specs.Rest.{rest_past, rest_of, ShowsAll, ShowsFed, ShowsGiven, ShowsFault, ShowsCut, PassesBytes}
@@ -57,22 +57,22 @@ pub shows_given : ShowsGiven
 shows_given s more = given_from s.at s.held s.kept s.fault more
 
 fault_parts : (at held : ℕ) (kept : List ℕ) (r : Result (Option (Packet × ℕ)) PacketFault) (more : List ℕ) (place : ℕ) (fault : PacketFault) → packet_read kept ≡ r
-    → answer_at (state at kept None held) r ≡ Err (Bad place fault) → rest_of (state at kept None held) more ≡ with_items [] (Some (place, bad fault))
+    → answer_at (state at kept None held) r ≡ Err (Bad place fault) → rest_of (state at kept None held) more ≡ with_items [] (Some (place, reason_of fault))
 fault_parts at held kept (Ok None) more place fault e a = absurd cc
 fault_parts at held kept (Ok (Some x)) more place fault e a = absurd cc
 fault_parts at held kept (Err other) more place fault e a =
     let places : at ≡ place = cc in
     let faults : other ≡ fault = cc in
     rest-is at held kept more None ∙ capture-bad at (kept ++ more) other (fault_stands kept more other e)
-    ∙ ap (λ (k : ℕ). with_items [] (Some (k, bad other))) places ∙ ap (λ (f : PacketFault). with_items [] (Some (place, bad f))) faults
+    ∙ ap (λ (k : ℕ). with_items [] (Some (k, reason_of other))) places ∙ ap (λ (f : PacketFault). with_items [] (Some (place, reason_of f))) faults
 
 fault_from : (at held : ℕ) (kept : List ℕ) (stood : Option PacketFault) (more : List ℕ) (place : ℕ) (fault : PacketFault)
-    → answer_of (state at kept stood held) ≡ Err (Bad place fault) → rest_of (state at kept stood held) more ≡ with_items [] (Some (place, bad fault))
+    → answer_of (state at kept stood held) ≡ Err (Bad place fault) → rest_of (state at kept stood held) more ≡ with_items [] (Some (place, reason_of fault))
 fault_from at held kept None more place fault a = fault_parts at held kept (packet_read kept) more place fault refl a
 fault_from at held kept (Some other) more place fault a =
     let places : at ≡ place = cc in
     let faults : other ≡ fault = cc in
-    rest-is at held kept more (Some other) ∙ ap (λ (k : ℕ). with_items [] (Some (k, bad other))) places ∙ ap (λ (f : PacketFault). with_items [] (Some (place, bad f))) faults
+    rest-is at held kept more (Some other) ∙ ap (λ (k : ℕ). with_items [] (Some (k, reason_of other))) places ∙ ap (λ (f : PacketFault). with_items [] (Some (place, reason_of f))) faults
 
 pub shows_fault : ShowsFault
 shows_fault s more at fault a = fault_from s.at s.held s.kept s.fault more at fault a

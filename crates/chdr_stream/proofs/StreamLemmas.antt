@@ -7,7 +7,7 @@ use Rattle.chdr_packets.specs.declared.fault.PacketFault.{PacketFault}
 use Rattle.chdr_packets.specs.declared.packet.Packet.{Packet}
 use Rattle.chdr_packets.proofs.Laws.{read_within, read_stands, fault_stands, none_exactly}
 use Rattle.chdr_stream.specs.declared.placed.Placed.{Placed}
-use Rattle.chdr_stream.specs.Capture.{Reason, bad, truncated, Capture, behind, part_at, capture_from, capture_of, Decoded}
+use Rattle.chdr_stream.specs.Capture.{Reason, reason_of, truncated, Capture, behind, part_at, capture_from, capture_of, Decoded}
 
 abbrev pub found : Packet → ℕ → Result (Option (Packet × ℕ)) PacketFault
 found p n = Ok (Some (p, n))
@@ -54,7 +54,7 @@ capture-part at (x ∷ b) p (suc n) e =
 abbrev pub marked : ℕ → Bool → Packet → Placed
 marked at canonical p = record { at = at; canonical = canonical; packet = p }
 
-pub capture-bad : (at : ℕ) (b : List ℕ) (fault : PacketFault) → packet_read b ≡ Err fault → capture_from 0 at b ≡ with_items [] (Some (at, bad fault))
+pub capture-bad : (at : ℕ) (b : List ℕ) (fault : PacketFault) → packet_read b ≡ Err fault → capture_from 0 at b ≡ with_items [] (Some (at, reason_of fault))
 unfolding capture_from
 capture-bad at [] fault e = absurd (nothing_read fault e)
 capture-bad at (x ∷ b) fault e = ap (λ (r : Result (Option (Packet × ℕ)) PacketFault). part_at at (x ∷ b) r (λ skip. capture_from skip (at + 1) b)) e
@@ -97,9 +97,9 @@ decoded_next fed done at kept p n e d =
     }
 
 pub decoded_bad : (fed : List ℕ) (done : List Placed) (at : ℕ) (kept more : List ℕ) (fault : PacketFault) → packet_read kept ≡ Err fault → Decoded fed done at kept
-    → capture_of (fed ++ more) ≡ with_items done (Some (at, bad fault))
+    → capture_of (fed ++ more) ≡ with_items done (Some (at, reason_of fault))
 decoded_bad fed done at kept more fault e d =
-    d.goes_on more ∙ ap (behind done) (capture-bad at (kept ++ more) fault (fault_stands kept more fault e)) ∙ ap (λ (items : List Placed). with_items items (Some (at, bad fault))) (append-nil done)
+    d.goes_on more ∙ ap (behind done) (capture-bad at (kept ++ more) fault (fault_stands kept more fault e)) ∙ ap (λ (items : List Placed). with_items items (Some (at, reason_of fault))) (append-nil done)
 
 pub decoded_cut : (fed : List ℕ) (done : List Placed) (at : ℕ) (kept : List ℕ) → packet_read kept ≡ Ok None → 0 < length kept → Decoded fed done at kept
     → capture_of fed ≡ with_items done (Some (at, truncated))

@@ -4,7 +4,7 @@ use Rattle.chdr_packets.specs.declared.fault.PacketFault.{PacketFault}
 use Rattle.chdr_packets.specs.declared.packet.Packet.{Packet}
 use Rattle.chdr_stream.specs.declared.placed.Placed.{Placed}
 use Rattle.chdr_stream.specs.declared.placed.StreamFault.{StreamFault}
-use Rattle.chdr_stream.specs.Capture.{Reason, bad, truncated}
+use Rattle.chdr_stream.specs.Capture.{Reason, reason_of, truncated}
 use Rattle.chdr_stream.specs.Stream.{Stream, fed_with, reading, answer_at, after}
 use Rattle.chdr_stream.specs.Places.{ArePlaced}
 
@@ -89,4 +89,4 @@ IsDrained s = FindsNone (reading s)
 -- the fault that a drained stream stands at where no bytes are to come
 abbrev pub stop_at : Stream → Result (Option (Packet × ℕ)) PacketFault → Option (ℕ × Reason)
 stop_at s (Ok found) = if length s.kept == 0 then None else Some (s.at, truncated)
-stop_at s (Err fault) = Some (s.at, bad fault)
+stop_at s (Err fault) = Some (s.at, reason_of fault)

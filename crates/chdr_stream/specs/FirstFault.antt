@@ -1,9 +1,9 @@
 -- The first fault of bytes, told by the captures among their fronts and by the tests of a packet.
 use Rattle.std.specs.Prelude.{ℕ, ◌<◌, ◌≤◌, List, length, take, drop}
+use Rattle.chdr_words.specs.declared.fault.MsgFault.TheVariants.{BadStatusLength, BadCommandLength, BadControlLength, BadManagement}
 use Rattle.chdr_packets.specs.Refusals.{HasBadLength, HasBadPayload, IsReserved, IsShort}
-use Rattle.chdr_packets.specs.declared.fault.PacketFault.TheVariants.{ReservedType, BadLength, Message, Memory}
 use Rattle.chdr_packets.specs.declared.packet.Packet.{Packet}
-use Rattle.chdr_stream.specs.Capture.{IsCaptureOf, Reason, bad, truncated}
+use Rattle.chdr_stream.specs.Capture.{IsCaptureOf, Reason, reserved_type, bad_length, bad_status_length, bad_command_length, bad_control_length, bad_management, truncated}
 
 -- of all fronts of the bytes that are a capture, the longest has these packets and this length
 pub record IsLongestFront (bytes : List ℕ) (packets : List Packet) (at : ℕ) : Type 0 where
@@ -13,10 +13,12 @@ pub record IsLongestFront (bytes : List ℕ) (packets : List Packet) (at : ℕ) 
 
 -- the first test of a packet that fails at the front of the bytes; there are some, where they are too few
 abbrev pub FailsBy : Reason → List ℕ → Type 0
-FailsBy (bad ReservedType) bytes = IsReserved bytes
-FailsBy (bad BadLength) bytes = HasBadLength bytes
-FailsBy (bad (Message fault)) bytes = HasBadPayload fault bytes
-FailsBy (bad Memory) bytes = ⊥
+FailsBy reserved_type bytes = IsReserved bytes
+FailsBy bad_length bytes = HasBadLength bytes
+FailsBy bad_status_length bytes = HasBadPayload BadStatusLength bytes
+FailsBy bad_command_length bytes = HasBadPayload BadCommandLength bytes
+FailsBy bad_control_length bytes = HasBadPayload BadControlLength bytes
+FailsBy bad_management bytes = HasBadPayload BadManagement bytes
 FailsBy truncated bytes = IsShort bytes × (0 < length bytes)
 
 -- the first fault stands behind the longest front that is a capture

@@ -7,7 +7,7 @@ use Rattle.chdr_stream.specs.declared.placed.Passed.{Passed}
 use Rattle.chdr_stream.specs.declared.placed.Placed.{Placed}
 use Rattle.chdr_stream.specs.declared.placed.StreamFault.{StreamFault}
 use Rattle.chdr_stream.specs.declared.placed.StreamFault.TheVariants.{Bad}
-use Rattle.chdr_stream.specs.Capture.{IsCaptureOf, Reason, bad, truncated, capture_of}
+use Rattle.chdr_stream.specs.Capture.{HasReason, IsCaptureOf, Reason, reason_of, truncated, capture_of}
 use Rattle.chdr_packets.specs.Laws.{IsBytes}
 use Rattle.chdr_stream.specs.FirstFault.{IsLongestFront, IsFirstFault}
 use Rattle.chdr_stream.specs.Places.{packets_of, ArePlaced}
@@ -79,7 +79,7 @@ KeepsRest = (calls : List Call) → IsBytes (fed_by calls) → (decoder_of calls
 abbrev pub NamesFault : Type 0
 NamesFault = (calls : List Call) (more : List ℕ) (at : ℕ) (fault : PacketFault) → IsBytes (fed_by calls ++ more)
     → answer_of (decoder_of calls) ≡ Err (Bad at fault)
-    → IsFirstFault (fed_by calls ++ more) at (bad fault) × ArePlaced 0 (given_by calls) (take at (fed_by calls ++ more))
+    → IsFirstFault (fed_by calls ++ more) at (reason_of fault) × ArePlaced 0 (given_by calls) (take at (fed_by calls ++ more)) × HasReason fault
 
 -- the place at which the end is refused is the first fault of the bytes fed
 abbrev pub NamesCut : Type 0

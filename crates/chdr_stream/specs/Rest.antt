@@ -3,14 +3,14 @@ use Rattle.std.specs.Prelude.{◌≡◌, ℕ, ◌≤◌, ◌==◌, if◌then◌e
 use Rattle.chdr_packets.specs.declared.fault.PacketFault.{PacketFault}
 use Rattle.chdr_packets.specs.declared.packet.Packet.{Packet}
 use Rattle.chdr_stream.specs.declared.placed.StreamFault.TheVariants.{Bad}
-use Rattle.chdr_stream.specs.Capture.{bad, truncated, Capture, behind, capture_from, capture_of}
+use Rattle.chdr_stream.specs.Capture.{reason_of, truncated, Capture, behind, capture_from, capture_of}
 use Rattle.chdr_stream.specs.Stream.{Stream, fed_with, reading, after}
 use Rattle.chdr_stream.specs.Calls.{answer_of, given, opened}
 
 -- behind a fault nothing more is shown
 abbrev pub rest_past : Option PacketFault → ℕ → List ℕ → Capture
 rest_past None at bytes = capture_from 0 at bytes
-rest_past (Some fault) at bytes = record { items = []; fault = Some (at, bad fault) }
+rest_past (Some fault) at bytes = record { items = []; fault = Some (at, reason_of fault) }
 
 -- what is shown of the bytes kept and of those that follow
 unfoldable pub rest_of : Stream → List ℕ → Capture
@@ -31,7 +31,7 @@ ShowsGiven = (s : Stream) (more : List ℕ) → rest_of s more ≡ behind (given
 -- a fault that is answered is shown, whatever follows
 abbrev pub ShowsFault : Type 0
 ShowsFault = (s : Stream) (more : List ℕ) (at : ℕ) (fault : PacketFault) → answer_of s ≡ Err (Bad at fault)
-    → rest_of s more ≡ record { items = []; fault = Some (at, bad fault) }
+    → rest_of s more ≡ record { items = []; fault = Some (at, reason_of fault) }
 
 -- where nothing follows, bytes that are no whole packet are cut off
 abbrev pub ShowsCut : Type 0

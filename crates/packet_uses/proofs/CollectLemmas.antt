@@ -6,7 +6,7 @@ use Rattle.chdr_packets.proofs.Laws.{none_exactly}
 use Rattle.chdr_packets.specs.declared.fault.PacketFault.{PacketFault}
 use Rattle.chdr_packets.specs.declared.packet.Packet.{Packet}
 use Rattle.chdr_stream.specs.Calls.{answer_of, given, opened}
-use Rattle.chdr_stream.specs.Capture.{Capture, Reason, bad, behind, capture_of, truncated}
+use Rattle.chdr_stream.specs.Capture.{Capture, Reason, behind, capture_of, reason_of, truncated}
 use Rattle.chdr_stream.specs.Rest.{rest_of}
 use Rattle.chdr_stream.specs.Stream.{Stream, after, answer_at, fed_with, finish_at, past, reading}
 use Rattle.chdr_stream.specs.declared.placed.FinishFault.{FinishFault}
@@ -57,9 +57,9 @@ none_left old mid new packets taken same e moves =
     )
 
 pub at_fault : (old mid : Stream) (packets taken : List Placed) (at : ℕ) (fault : PacketFault) → ShowsSame old mid packets taken → answer_of mid ≡ stands at fault
-    → (more : List ℕ) → behind packets (rest_of old more) ≡ shows taken (Some (at, bad fault))
+    → (more : List ℕ) → behind packets (rest_of old more) ≡ shows taken (Some (at, reason_of fault))
 at_fault old mid packets taken at fault same e = λ more.
-    same more ∙ ap (behind taken) (shows_fault mid more at fault e) ∙ ap (λ (l : List Placed). shows l (Some (at, bad fault))) (append-nil taken)
+    same more ∙ ap (behind taken) (shows_fault mid more at fault e) ∙ ap (λ (l : List Placed). shows l (Some (at, reason_of fault))) (append-nil taken)
 
 -- ---- how far it goes
 

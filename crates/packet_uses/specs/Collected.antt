@@ -1,6 +1,6 @@
 -- The packets that are collected of a stream in pieces, and where they end.
 use Rattle.std.specs.Prelude.{◌≡◌, ℕ, List, [], ◌∷◌, ◌++◌, Option, None, Some, Ok}
-use Rattle.chdr_stream.specs.Capture.{Capture, Reason, bad, behind, truncated}
+use Rattle.chdr_stream.specs.Capture.{Capture, Reason, behind, reason_of, truncated}
 use Rattle.chdr_stream.specs.Rest.{rest_of}
 use Rattle.chdr_stream.specs.Stream.{Stream, reading}
 use Rattle.chdr_stream.specs.declared.placed.Placed.{Placed}
@@ -17,7 +17,7 @@ joined (piece ∷ pieces) = piece ++ joined pieces
 abbrev pub fault_of : End → Option (ℕ × Reason)
 fault_of Whole = None
 fault_of (Truncated at) = Some (at, truncated)
-fault_of (Bad at fault) = Some (at, bad fault)
+fault_of (Bad at fault) = Some (at, reason_of fault)
 
 -- what was collected, as what bytes show
 abbrev pub shown : Collected → Capture
