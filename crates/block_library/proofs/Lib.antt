@@ -7,4 +7,5 @@ mod LineLemmas
 mod ProducerLemmas
 pub mod SampleLemmas
 mod SizeLemmas
+mod StrideLemmas
 mod WithinLemmas

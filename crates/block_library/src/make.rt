@@ -93,6 +93,7 @@ pub fn kept(
     Ok(made)
 }
 
+/// The samples that keep leaves, found one after another without a look at those between.
 fn kept_bytes(
     alloc: Global,
     n: u16,
@@ -107,11 +108,11 @@ fn kept_bytes(
         samples.now / item)) }
 {
     let mut bytes = Vec::with_capacity(alloc, samples.len() / n as usize)?;
-    for i in 0..samples.len() / item as usize {
-        let keeps = (phase as usize + i) % n as usize == 0;
-        if keeps {
-            push_sample(&mut bytes, item, samples, i)?;
-        }
+    let count = samples.len() / item as usize;
+    let mut index = (n as usize - phase as usize % n as usize) % n as usize;
+    while index < count {
+        push_sample(&mut bytes, item, samples, index)?;
+        index += n as usize;
     }
     Ok(bytes)
 }
