@@ -27,7 +27,8 @@ mod_first first n i =
     let e : first + i ≡ (first % n + i) + n * (first / n) = omega (arith, mod-add-div first n) in
     sym (ap (λ m. m % n) e ∙ add-mul-mod_self_left (first % n + i) n (first / n))
 
-flat_map-same : {X A : Type 0} (f g : X → List A) → ((x : X) → f x ≡ g x) → (xs : List X) → flat_map f xs ≡ flat_map g xs
+-- the same pieces make the same list
+pub flat_map-same : {X A : Type 0} (f g : X → List A) → ((x : X) → f x ≡ g x) → (xs : List X) → flat_map f xs ≡ flat_map g xs
 flat_map-same f g e [] = refl
 flat_map-same f g e (x ∷ xs) = rw (e x, flat_map-same f g e xs) refl
 

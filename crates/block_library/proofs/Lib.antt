@@ -4,6 +4,7 @@ mod HistoryLemmas
 mod KeptLemmas
 pub mod Laws
 mod LineLemmas
+mod MovedLemmas
 mod ProducerLemmas
 pub mod SampleLemmas
 mod SizeLemmas

@@ -1,5 +1,5 @@
 -- What each kind of block gives for the packets that were fed to it; docs/blocks.md has the table.
-use Rattle.std.specs.Prelude.{◌≡◌, ◌==◌, ◌+◌, ◌*◌, ◌/◌, ◌%◌, ◌&&◌, ◌||◌, ◌++◌, ◌≤◌, ℕ, Bool, not, List, [], ◌∷◌, Option, None, if◌then◌else◌, length, map, take, drop}
+use Rattle.std.specs.Prelude.{◌≡◌, ◌==◌, ◌+◌, ◌*◌, ◌/◌, ◌%◌, ◌&&◌, ◌||◌, ◌++◌, ◌≤◌, ℕ, Bool, false, not, List, [], ◌∷◌, Option, None, if◌then◌else◌, length, map, take, drop}
 use Rattle.std.specs.List.{flat_map, range_with_len}
 use Rattle.chdr_packets.specs.declared.packet.Packet.{Packet}
 use Rattle.chdr_packets.specs.declared.packet.Body.{Body}
@@ -65,6 +65,13 @@ HoldsSamples item (Command command) = ⊥
 HoldsSamples item (Control control) = ⊥
 HoldsSamples item (Management management) = ⊥
 
+abbrev pub holds_samples : ℕ → Body → Bool
+holds_samples item (Samples time payload) = length payload % item == 0
+holds_samples item (Status status) = false
+holds_samples item (Command command) = false
+holds_samples item (Control control) = false
+holds_samples item (Management management) = false
+
 -- a packet that a block takes
 pub record IsFeed (item : ℕ) (p : Packet) : Type 0 where
   pub vc : p.vc ≡ 0
@@ -82,6 +89,14 @@ sample_at item payload i = take item (drop (item * i) payload)
 abbrev pub kept_samples : ℕ → ℕ → ℕ → List ℕ → ℕ → List ℕ
 kept_samples n item first payload count =
     flat_map (λ i. if (first + i) % n == 0 then sample_at item payload i else []) (range_with_len 0 count)
+
+-- keep and repeat pass a packet of whole samples as it is if n is 1
+abbrev pub passes_whole : ℕ → ℕ → Packet → Bool
+passes_whole n item p = n == 1 && holds_samples item p.body
+
+-- it has no samples and doesn't end a burst
+abbrev pub is_left_out : Packet → Bool
+is_left_out p = length (payload_in p.body) == 0 && not p.eob
 
 -- a packet with other samples; one without samples is left out, but for the end of a burst
 abbrev pub resampled : Packet → List ℕ → List Packet

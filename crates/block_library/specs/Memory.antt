@@ -4,7 +4,7 @@ use Rattle.std.specs.List.{sum_by}
 use Rattle.chdr_packets.specs.declared.packet.Packet.{Packet}
 use Rattle.block_library.specs.declared.kind.BlockKind.{BlockKind}
 use Rattle.block_library.specs.declared.kind.BlockKind.TheVariants.{Tx, Rx, Fifo, Split, Keep, Repeat, Replay, Switch, Sink}
-use Rattle.block_library.specs.Blocks.{FitsKind, Lists, inputs, samples_in, payload_in, kept_samples, resampled, repeated_packet, closes, open_group, replayed_group, block_of, joined, alone}
+use Rattle.block_library.specs.Blocks.{FitsKind, Lists, inputs, samples_in, payload_in, kept_samples, resampled, repeated_packet, passes_whole, is_left_out, closes, open_group, replayed_group, block_of, joined, alone}
 
 -- the count of packets stands still at the end of its type
 abbrev pub counted : ℕ → ℕ
@@ -84,17 +84,41 @@ gives_by (Replay n) item phase group port p =
 gives_by (Switch n) item phase group port p = lists (if port == n then p ∷ [] else []) []
 gives_by Sink item phase group port p = lists [] []
 
--- the part of it that is made beforehand: the rest is the packet itself, which moves on to the first output
+-- the packets that are moved when a packet is fed: they are the last on the first output
+abbrev pub moved_by : BlockKind → ℕ → List Packet → ℕ → Packet → List Packet
+moved_by Tx item group port p = []
+moved_by Rx item group port p = []
+moved_by Fifo item group port p = p ∷ []
+moved_by Split item group port p = p ∷ []
+moved_by (Keep n) item group port p = if passes_whole n item p then (if is_left_out p then [] else p ∷ []) else []
+moved_by (Repeat n) item group port p = if passes_whole n item p then p ∷ [] else []
+moved_by (Replay n) item group port p = if closes group p then group ++ p ∷ [] else []
+moved_by (Switch n) item group port p = if port == n then p ∷ [] else []
+moved_by Sink item group port p = []
+
+-- how many there are at most, whichever the input is
+abbrev pub room_by : BlockKind → ℕ → List Packet → Packet → ℕ
+room_by Tx item group p = 0
+room_by Rx item group p = 0
+room_by Fifo item group p = 1
+room_by Split item group p = 1
+room_by (Keep n) item group p = if passes_whole n item p then (if is_left_out p then 0 else 1) else 0
+room_by (Repeat n) item group p = if passes_whole n item p then 1 else 0
+room_by (Replay n) item group p = if closes group p then length group + 1 else 0
+room_by (Switch n) item group p = 1
+room_by Sink item group p = 0
+
+-- the packets before them, which are made beforehand
 abbrev pub made_by : BlockKind → ℕ → ℕ → List Packet → Packet → Lists
 made_by Tx item phase group p = lists [] []
 made_by Rx item phase group p = lists [] []
 made_by Fifo item phase group p = lists [] []
 made_by Split item phase group p = lists [] (p ∷ [])
 made_by (Keep n) item phase group p =
-    lists (resampled p (kept_samples n item phase (payload_in p.body) (samples_in item p))) []
-made_by (Repeat n) item phase group p = lists (repeated_packet n item p) []
+    lists (if passes_whole n item p then [] else resampled p (kept_samples n item phase (payload_in p.body) (samples_in item p))) []
+made_by (Repeat n) item phase group p = lists (if passes_whole n item p then [] else repeated_packet n item p) []
 made_by (Replay n) item phase group p =
-    lists (if closes group p then replayed_group n (group ++ p ∷ []) else []) []
+    lists (if closes group p then replayed_group (n - 1) (group ++ p ∷ []) else []) []
 made_by (Switch n) item phase group p = lists [] []
 made_by Sink item phase group p = lists [] []
 
@@ -123,8 +147,19 @@ next_group Sink group p = group
 unfoldable pub gives : Kept → ℕ → Packet → Lists
 gives kept port p = gives_by kept.kind kept.item kept.phase kept.group port p
 
-unfoldable pub made : Kept → Packet → Lists
-made kept p = made_by kept.kind kept.item kept.phase kept.group p
+unfoldable pub moved : Kept → ℕ → Packet → List Packet
+moved kept port p = moved_by kept.kind kept.item kept.group port p
+
+-- what is made before a packet is fed, and the room behind the first packets for those that are moved
+pub record Prepared : Type 0 where
+  pub lists : Lists
+  pub room : ℕ
+
+abbrev pub prepared_as : Lists → ℕ → Prepared
+prepared_as made room = record { lists = made; room = room }
+
+unfoldable pub made : Kept → Packet → Prepared
+made kept p = prepared_as (made_by kept.kind kept.item kept.phase kept.group p) (room_by kept.kind kept.item kept.group p)
 
 -- what is kept once a packet is fed
 unfoldable pub after_feed : Kept → ℕ → Packet → Kept
@@ -138,7 +173,7 @@ after_feed kept port p = record kept {
 -- a block as contracts see it: what it keeps, and what is made for the next packet
 pub record Seen : Type 0 where
   pub kept : Kept
-  pub prepared : Option Lists
+  pub prepared : Option Prepared
 
 -- the block stands for this history
 abbrev pub StandsFor : Kept → Lists → Type 0

@@ -1,10 +1,12 @@
-ghost use Rattle.std.specs.Prelude.{IsTrue, ◌↔◌, ◌≡◌, ◌==◌, ◌%◌, ◌/◌, ◌<◌, ◌⊎◌, ◌∷◌, ℕ, List, [], Option, Some, None, IfOk, OnOk, OnErr, slice_get, ◌+◌, vec_len, vec_capacity, if◌then◌else◌};
-ghost use Rattle.block_library.specs.Blocks.{FitsKind, HoldsSamples, IsFeed, Lists, inputs, closes};
-ghost use Rattle.block_library.specs.Memory.{StandsFor, GoesOn, lists, counted, kept_of, gives, made, after_feed, next_phase, next_group, block_registers};
+ghost use Rattle.std.specs.Prelude.{IsTrue, ◌≡◌, ◌==◌, ◌≤◌, ◌++◌, ◌%◌, ◌/◌, ◌<◌, ◌⊎◌, ◌∷◌, ℕ, List, [], Option, Some, None, IfOk, OnOk, OnErr, slice_get, ◌+◌, vec_len, vec_capacity, if◌then◌else◌};
+ghost use Rattle.block_library.specs.Blocks.{FitsKind, IsFeed, Lists, inputs, closes};
+ghost use Rattle.block_library.specs.Memory.{StandsFor, GoesOn, lists, counted, kept_of, gives, made, moved, prepared_as, after_feed, next_phase, next_group, block_registers};
 
 use crate::BlockKind;
-use crate::make::{self, Made, copied, repeated, replayed, sample_count};
-use chdr_packets::{Body, Packet, PacketList};
+use crate::make::{
+    self, Made, copied, holds_samples, is_left_out, passes_whole, repeated, replayed, sample_count,
+};
+use chdr_packets::{Packet, PacketList};
 use rf_base::{Items, Memory};
 use std::alloc::Global;
 use std::marker::Model;
@@ -33,15 +35,15 @@ pub struct Block {
 impl Model for Block {
     ghost use Rattle.std.specs.Prelude.{◌≡◌, ◌<◌, ◌≤◌, ◌⊎◌, option_map, vec_len, vec_capacity};
     ghost use Rattle.block_library.specs.Blocks.{FitsKind};
-    ghost use Rattle.block_library.specs.Memory.{Seen, kept, lists};
+    ghost use Rattle.block_library.specs.Memory.{Seen, kept, lists, prepared_as};
 
     ghost Value = { Seen };
 
     ghost view = { λ block. record {
       kept = kept block.kind block.item block.phase
           block.group.items block.fed block.given;
-      prepared = option_map (λ made. lists
-          made.first.items made.second.items) block.prepared;
+      prepared = option_map (λ made. prepared_as
+          (lists made.first.items made.second.items) made.room) block.prepared;
     } };
 
     ghost invariant = { λ block. FitsKind block.kind × ((block.item ≡ 4) ⊎ (block.item ≡ 8)) ×
@@ -83,7 +85,7 @@ impl Block {
             && holds_samples(self.item, &packet.body)
     }
 
-    /// Makes what the block will give for a packet but the packet itself, and the room for that.
+    /// Makes what the block will give for a packet but those that are moved, and the room for these.
     ///
     /// What was fed stays as it is. At `Err` nothing is prepared.
     pub fn prepare(&mut self, port: u16, packet: &Packet) -> Result<(), Memory>
@@ -101,35 +103,37 @@ impl Block {
 
     #[tactic(auto, unfolding(crate::specs::Memory::made))]
     fn make(&self, packet: &Packet) -> Result<Made, Memory>
-        ensures { IfOk result (λ it. lists it.first.items it.second.items ≡ made self.now.kept
-            packet.now) }
+        ensures { IfOk result (λ it. prepared_as (lists it.first.items it.second.items) it.room ≡
+            made self.now.kept packet.now) }
     {
         let alloc = *self.group.allocator();
         let none = Vec::new(alloc);
         match self.kind {
-            BlockKind::Tx
-            | BlockKind::Rx
-            | BlockKind::Fifo
-            | BlockKind::Switch(_)
-            | BlockKind::Sink => Made::of(alloc, none, Vec::new(alloc)),
-            BlockKind::Split => Made::of(alloc, none, copied(alloc, packet)?),
+            BlockKind::Tx | BlockKind::Rx | BlockKind::Sink => Made::of(none, Vec::new(alloc), 0),
+            BlockKind::Fifo | BlockKind::Switch(_) => Made::of(none, Vec::new(alloc), 1),
+            BlockKind::Split => Made::of(none, copied(alloc, packet)?, 1),
             BlockKind::Keep(n) => {
-                Made::of(
-                    alloc,
-                    make::kept(alloc, n, self.item, self.phase, packet)?,
-                    none,
-                )
+                if passes_whole(n, self.item, packet) {
+                    let room = if is_left_out(packet) { 0 } else { 1 };
+                    Made::of(none, Vec::new(alloc), room)
+                } else {
+                    let made = make::kept(alloc, n, self.item, self.phase, packet)?;
+                    Made::of(made, none, 0)
+                }
             }
-            BlockKind::Repeat(n) => Made::of(alloc, repeated(alloc, n, self.item, packet)?, none),
+            BlockKind::Repeat(n) => {
+                if passes_whole(n, self.item, packet) {
+                    Made::of(none, Vec::new(alloc), 1)
+                } else {
+                    Made::of(repeated(alloc, n, self.item, packet)?, none, 0)
+                }
+            }
             BlockKind::Replay(n) => {
                 if self.closes(packet) {
-                    Made::of(
-                        alloc,
-                        replayed(alloc, n, self.group.as_slice(), packet)?,
-                        none,
-                    )
+                    let copies = replayed(alloc, n - 1, self.group.as_slice(), packet)?;
+                    Made::of(copies, none, self.group.len() + 1)
                 } else {
-                    Made::of(alloc, none, Vec::new(alloc))
+                    Made::of(none, Vec::new(alloc), 0)
                 }
             }
         }
@@ -146,7 +150,7 @@ impl Block {
     ///
     /// A block stands for a history where it keeps what that history leaves. Packet by packet, what is given
     /// then joins up to what the block gives for its whole history.
-    #[tactic(auto, unfolding(crate::specs::Memory::made, crate::specs::Memory::gives, crate::specs::Memory::after_feed))]
+    #[tactic(auto, unfolding(crate::specs::Memory::made, crate::specs::Memory::moved, crate::specs::Memory::gives, crate::specs::Memory::after_feed))]
     pub fn feed(&mut self, port: u16, packet: Packet) -> Fed
         requires port { port < inputs self.old.kept.kind }
         requires prepared { self.old.prepared ≡ Some (made self.old.kept packet) }
@@ -162,15 +166,16 @@ impl Block {
     {
         let Some(
             Made {
-                passed,
                 first,
                 second,
+                room: _,
             },
         ) = self.prepared.take()
         else {
             unreachable!()
         };
-        let first = self.advance(port, packet, passed, first);
+        let mut first = first;
+        self.advance(port, packet, &mut first);
         self.fed = count(self.fed, 1);
         self.given = count(count(self.given, first.len()), second.len());
         Fed {
@@ -179,20 +184,12 @@ impl Block {
         }
     }
 
-    /// Moves the packet to where its kind wants it, and gives the first output's packets.
-    #[tactic(auto, unfolding(crate::specs::Memory::made, crate::specs::Memory::gives))]
-    fn advance(
-        &mut self,
-        port: u16,
-        packet: Packet,
-        passed: Vec<Packet>,
-        first: Vec<Packet>,
-    ) -> Vec<Packet>
-        requires port { port < inputs self.old.kept.kind }
-        requires none { passed.items ≡ [] }
-        requires room { vec_len passed < vec_capacity passed }
-        requires first { first.items ≡ (made self.old.kept packet).first }
-        ensures first { result.items ≡ (gives self.old.kept port packet).first }
+    /// Moves the packet to where its kind wants it, and a group that ends to the first output.
+    #[tactic(auto, unfolding(crate::specs::Memory::moved, crate::specs::Memory::made))]
+    fn advance(&mut self, port: u16, packet: Packet, first: &mut Vec<Packet>)
+        requires room { vec_len first.old + (made self.old.kept packet).room ≤ vec_capacity
+            first.old }
+        ensures first { first.new.items ≡ first.old.items ++ moved self.old.kept port packet }
         ensures next { self.new ≡ record self.old {
           kept = record self.old.kept {
             phase =
@@ -203,31 +200,34 @@ impl Block {
         } }
     {
         match self.kind {
-            BlockKind::Tx | BlockKind::Rx | BlockKind::Repeat(_) | BlockKind::Sink => first,
-            BlockKind::Fifo | BlockKind::Split => {
-                let mut passed = passed;
-                passed.push_reserved(packet);
-                passed
-            }
+            BlockKind::Tx | BlockKind::Rx | BlockKind::Sink => {}
+            BlockKind::Fifo | BlockKind::Split => first.push_reserved(packet),
             BlockKind::Switch(n) => {
-                let mut passed = passed;
                 if port == n {
-                    passed.push_reserved(packet);
+                    first.push_reserved(packet);
                 }
-                passed
             }
             BlockKind::Keep(n) => {
                 let samples = sample_count(self.item, &packet);
                 self.phase = ((self.phase as usize + samples) % n as usize) as u32;
-                first
+                if passes_whole(n, self.item, &packet) {
+                    if !is_left_out(&packet) {
+                        first.push_reserved(packet);
+                    }
+                }
+            }
+            BlockKind::Repeat(n) => {
+                if passes_whole(n, self.item, &packet) {
+                    first.push_reserved(packet);
+                }
             }
             BlockKind::Replay(_) => {
                 if self.closes(&packet) {
-                    self.group.clear();
+                    move_all(&mut self.group, first);
+                    first.push_reserved(packet);
                 } else {
                     self.group.push_reserved(packet);
                 }
-                first
             }
         }
     }
@@ -264,14 +264,19 @@ impl Block {
     }
 }
 
-/// Whether a body holds whole samples.
-fn holds_samples(item: u32, body: &Body) -> bool
-    requires { (item ≡ 4) ⊎ (item ≡ 8) }
-    ensures { IsTrue result ↔ HoldsSamples item body.now }
+/// Moves the packets to the end of a list that has room for them.
+fn move_all(group: &mut Vec<Packet>, list: &mut Vec<Packet>)
+    requires { vec_len list.old + vec_len group.old ≤ vec_capacity list.old }
+    ensures group { group.new.items ≡ [] }
+    ensures empty { vec_len group.new ≡ 0 }
+    ensures kept { vec_capacity group.new ≡ vec_capacity group.old }
+    ensures list { list.new.items ≡ list.old.items ++ group.old.items }
+    ensures len { vec_len list.new ≡ vec_len list.old + vec_len group.old }
+    ensures room { vec_capacity list.old ≤ vec_capacity list.new }
 {
-    match body {
-        Body::Samples { time: _, payload } => payload.len() % item as usize == 0,
-        Body::Status(_) | Body::Command(_) | Body::Control(_) | Body::Management(_) => false,
+    match list.append(group) {
+        Ok(()) => {}
+        Err(_) => unreachable!(),
     }
 }
 

@@ -1,31 +1,32 @@
-ghost use Rattle.std.specs.Prelude.{◌≡◌, ◌/◌, ◌*◌, ◌+◌, ◌<◌, ◌≤◌, ◌++◌, ◌∷◌, ◌⊎◌, [], ◌^◌, ◌-◌, IfOk, OnOk, length, vec_len, vec_capacity};
+ghost use Rattle.std.specs.Prelude.{IsTrue, ◌↔◌, ◌≡◌, ◌/◌, ◌*◌, ◌+◌, ◌<◌, ◌≤◌, ◌++◌, ◌∷◌, ◌⊎◌, [], ◌^◌, ◌-◌, IfOk, OnOk, length, vec_len, vec_capacity};
 ghost use Rattle.block_library.specs.Places.{IsAt};
-ghost use Rattle.block_library.specs.Blocks.{payload_in, time_in, samples_in, sample_at, kept_samples, resampled, repeated_samples, repeated_part, repeated_packet, replayed_group};
+ghost use Rattle.block_library.specs.Blocks.{HoldsSamples, holds_samples, passes_whole, is_left_out, payload_in, time_in, samples_in, sample_at, kept_samples, resampled, repeated_samples, repeated_part, repeated_packet, replayed_group};
 
 use chdr_packets::{Body, Packet};
 use rf_base::{Copyable, Items, Memory};
 use std::alloc::Global;
 
-/// What is made before a packet is fed; `passed` has room for the packet itself.
+/// What is made before a packet is fed; behind the first packets is room for those that are moved.
 #[derive(Drop)]
 pub struct Made {
-    pub passed: Vec<Packet>,
     pub first: Vec<Packet>,
     pub second: Vec<Packet>,
-    ghost none: { passed.items ≡ [] },
-    ghost room: { vec_len passed < vec_capacity passed },
+    pub room: usize,
+    ghost fits: { vec_len first + room ≤ vec_capacity first },
 }
 
 impl Made {
-    /// These packets beside the one that is fed.
-    pub fn of(alloc: Global, first: Vec<Packet>, second: Vec<Packet>) -> Result<Made, Memory>
+    /// These packets, with room for so many more.
+    pub fn of(mut first: Vec<Packet>, second: Vec<Packet>, room: usize) -> Result<Made, Memory>
         ensures first { IfOk result (λ made. made.first.items ≡ first.items) }
         ensures second { IfOk result (λ made. made.second.items ≡ second.items) }
+        ensures room { IfOk result (λ made. made.room ≡ room) }
     {
+        first.reserve(room)?;
         Ok(Made {
-            passed: Vec::with_capacity(alloc, 1)?,
             first,
             second,
+            room,
         })
     }
 }
@@ -39,6 +40,33 @@ fn samples_of(packet: &Packet) -> (Option<u64>, &[u8])
         Body::Samples { time, payload } => (*time, payload.as_slice()),
         Body::Status(_) | Body::Command(_) | Body::Control(_) | Body::Management(_) => (None, &[]),
     }
+}
+
+/// Whether a body holds whole samples.
+pub fn holds_samples(item: u32, body: &Body) -> bool
+    requires { (item ≡ 4) ⊎ (item ≡ 8) }
+    ensures whole { IsTrue result ↔ HoldsSamples item body.now }
+    ensures value { result ≡ holds_samples item body.now }
+{
+    match body {
+        Body::Samples { time: _, payload } => payload.len() % item as usize == 0,
+        Body::Status(_) | Body::Command(_) | Body::Control(_) | Body::Management(_) => false,
+    }
+}
+
+/// Whether keep and repeat by n pass the packet as it is.
+pub fn passes_whole(n: u16, item: u32, packet: &Packet) -> bool
+    requires { (item ≡ 4) ⊎ (item ≡ 8) }
+    ensures { result ≡ passes_whole n item packet.now }
+{
+    n == 1 && holds_samples(item, &packet.body)
+}
+
+/// Whether keep leaves the packet out: it has no samples and doesn't end a burst.
+pub fn is_left_out(packet: &Packet) -> bool
+    ensures { result ≡ is_left_out packet.now }
+{
+    samples_of(packet).1.is_empty() && !packet.eob
 }
 
 /// How many samples a packet has.
