@@ -38,13 +38,13 @@ use Rattle.net_streams.specs.Acting.{EnterActs, ReportActs}
 use Rattle.net_streams.specs.Shows.{Shows, core_of, flight_by, flight_of, load_of, loads_of, told_of, terms_of}
 use Rattle.net_streams.proofs.Showing.{shown-by}
 
-both : (a b : Bool) → IsTrue (a && b) → IsTrue a × IsTrue b
+pub both : (a b : Bool) → IsTrue (a && b) → IsTrue a × IsTrue b
 both true true h = (refl, refl)
 both true false h = cc
 both false b h = cc
 
 -- a stream whose packet entered, and which changes
-over-shown : (w : State) (s : ℕ) (closed : Bool) (next : Stream → Stream) (st : OneStream Packet) (o : Option ℕ) (vc : ℕ) (e : Entry) → s < length w.streams
+pub over-shown : (w : State) (s : ℕ) (closed : Bool) (next : Stream → Stream) (st : OneStream Packet) (o : Option ℕ) (vc : ℕ) (e : Entry) → s < length w.streams
     → st.core ≡ core_of (plan_at w.plan s) closed (next (stream_at w s))
     → st.forward ≡ flat_map flight_of (ahead (enters_over o vc e.marked e.packet e.tag w) s)
     → st.back ≡ flat_map told_of (back (enters_over o vc e.marked e.packet e.tag w) s)

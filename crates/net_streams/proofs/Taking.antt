@@ -1,4 +1,4 @@
--- A taking at an Rx is an act of its stream.
+-- A taking, at an Rx or by a feed, is an act of its stream.
 use Rattle.std.proofs.Common.{◌≡◌, ℕ, ◌+◌, ◌-◌, ◌<◌, ◌≤◌, Bool, true, false, IsTrue, List, [], ◌∷◌, length, take, drop, refl, ◌∙◌, ap, subst, arith}
 use Rattle.std.specs.Prelude.{nat_lt, nat_le, ◌&&◌}
 use Rattle.std.specs.List.{sum_by}
@@ -11,17 +11,18 @@ use Rattle.stream_endpoint.specs.Receiver.{takes}
 use Rattle.stream_endpoint.specs.declared.count.Count.{Count}
 use Rattle.stream_laws.specs.Acts.{Take, after as act_after}
 use Rattle.stream_laws.specs.Effects.{takes_core}
-use Rattle.stream_laws.specs.Machine.{Core, Load, count_of}
+use Rattle.stream_laws.specs.Machine.{Core, Load, State as OneStream, count_of}
 use Rattle.net_machine.specs.declared.event.Event.TheVariants as event
 use Rattle.net_machine.specs.declared.plan.StreamPlan.{StreamPlan}
 use Rattle.net_machine.specs.Conditions.{can_see, enabled, ends_at_rx, may}
-use Rattle.net_machine.specs.Effects.{after}
+use Rattle.net_machine.specs.Effects.{after, on_stream}
 use Rattle.net_machine.specs.Front.{StreamFront, front, front_at}
 use Rattle.net_machine.specs.Plans.{plan_at}
 use Rattle.net_machine.specs.State.{State, Stream, stream_at}
 use Rattle.net_machine.specs.Streams.{sum_of, taken_to, taking}
 use Rattle.net_machine.proofs.Laws.{fronts}
-use Rattle.net_streams.specs.Acting.{SeenActs}
+use Rattle.net_streams.specs.Acting.{Acts, IsShown, SeenActs}
+use Rattle.net_streams.specs.Making.{TakingActs}
 use Rattle.net_streams.specs.Shows.{core_of, load_of, loads_of, terms_of}
 use Rattle.net_streams.proofs.Showing.{shown-by}
 
@@ -60,18 +61,25 @@ unfolding may
 may-see w s n is = within (stream_at w s).taken n (length (stream_at w s).given)
     (subst (λ (f : StreamFront). IsTrue (can_see f n)) (fronts.stream w s) (both (ends_at_rx w.plan s) (can_see (front_at (front w) s) n) is))
 
-pub seen_acts : SeenActs
-unfolding after
-seen_acts w s n closed st shown is =
+-- taking n in all
+taken-acts : (w : State) (s n : ℕ) (closed : Bool) (st : OneStream Packet) → IsShown w s closed st → (stream_at w s).taken < n → n ≤ length (stream_at w s).given →
+    Acts w (on_stream s (taken_to n) w) s closed st
+taken-acts w s n closed st shown more_than there =
     let plan = plan_at w.plan s in
     let old = stream_at w s in
-    let tests = may-see w s n is in
     let more = n - old.taken in
     let taken : st.core.taken ≡ old.taken = ap (λ (c : Core Packet). c.taken) shown.shows.core in
     let given : length st.core.given ≡ length old.given = ap (λ (c : Core Packet). length c.given) shown.shows.core ∙ length-map old.given load_of in
     record {
       act = Take more;
-      allowed = (omega (arith, tests.0), omega (arith, tests.0, tests.1, taken, given));
+      allowed = (omega arith, omega (arith, taken, given));
       shows = shown-by w w s closed (taken_to n) (act_after (terms_of plan) st (Take more)) refl refl shown.there
-          (ap (takes_core more) shown.shows.core ∙ core-taken plan closed old n (omega (arith, tests.0))) shown.shows.forward shown.shows.back;
+          (ap (takes_core more) shown.shows.core ∙ core-taken plan closed old n (omega arith)) shown.shows.forward shown.shows.back;
     }
+
+pub seen_acts : SeenActs
+unfolding after
+seen_acts w s n closed st shown is = let tests = may-see w s n is in taken-acts w s n closed st shown tests.0 tests.1
+
+pub taking_acts : TakingActs
+taking_acts w s closed st shown more = taken-acts w s ((stream_at w s).taken + 1) closed st shown (omega arith) (omega arith)

@@ -4,6 +4,6 @@
 mod law;
 
 pub use law::{
-    what_comes_is_an_act, what_is_lost_is_an_act, what_is_sent_is_an_act, what_is_taken_is_an_act,
-    what_is_unseen_changes_nothing,
+    what_comes_is_an_act, what_is_lost_is_an_act, what_is_made_is_an_act, what_is_sent_is_an_act,
+    what_is_taken_is_an_act, what_is_unseen_changes_nothing,
 };
