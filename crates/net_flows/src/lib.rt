@@ -1,0 +1,3 @@
+//! What lasts of each stream of a network: its plan, the form of its packets, what its entries tell, and that it is a run
+//! of the machine of one stream.
+#![tactic(auto)]
