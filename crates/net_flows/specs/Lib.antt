@@ -1,3 +1,4 @@
 pub mod Lasting
 pub mod Forms
 pub mod Flows
+pub mod Closing

@@ -1,3 +1,7 @@
 //! What lasts of each stream of a network: its plan, the form of its packets, what its entries tell, and that it is a run
 //! of the machine of one stream.
 #![tactic(auto)]
+
+mod law;
+
+pub use law::what_is_finished_stays_finished;

@@ -1,0 +1,2 @@
+-- The laws of what lasts of a network's streams, for other crates' proofs to cite.
+pub use Rattle.net_flows.proofs.Closing.{closed_stays, drained_stays, further_is_finished}

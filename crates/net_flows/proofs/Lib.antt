@@ -1,0 +1,3 @@
+mod Closing
+mod Following
+pub mod Laws
