@@ -1,2 +1,3 @@
 -- The laws of what lasts of a network's streams, for other crates' proofs to cite.
 pub use Rattle.net_flows.proofs.Closing.{closed_stays, drained_stays, further_is_finished}
+pub use Rattle.net_flows.proofs.Staying.{events_keep_ends, steady_stays, unseen_flows}

@@ -1,3 +1,11 @@
 mod Closing
 mod Following
+mod Keeping
+mod Telling
+mod Entering
+mod Hopping
+mod Ports
+mod Fitting
+mod Feeding
+mod Staying
 pub mod Laws

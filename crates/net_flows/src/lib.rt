@@ -4,4 +4,4 @@
 
 mod law;
 
-pub use law::what_is_finished_stays_finished;
+pub use law::{each_stream_stays_a_run, what_is_finished_stays_finished};
