@@ -82,10 +82,10 @@ sends-steps w s next o vc e telling foreign tells kept itself =
 -- ---- samples
 
 -- what has the form of samples is samples
-record AreSamples (b : Body) : Type 0 where
-  time : Option ℕ
-  payload : List ℕ
-  is : b ≡ body.Samples time payload
+pub record AreSamples (b : Body) : Type 0 where
+  pub time : Option ℕ
+  pub payload : List ℕ
+  pub is : b ≡ body.Samples time payload
 
 are-samples : (item : ℕ) (b : Body) → HoldsSamples item b → AreSamples b
 are-samples item (body.Samples time payload) h = record { time = time; payload = payload; is = refl }
@@ -94,11 +94,11 @@ are-samples item (body.Status status) h = absurd h
 are-samples item (body.Control control) h = absurd h
 are-samples item (body.Management m) h = absurd h
 
-samples-in : (plan : RunPlan) (s : ℕ) (p : Packet) → IsPacketOn plan s p → AreSamples p.body
+pub samples-in : (plan : RunPlan) (s : ℕ) (p : Packet) → IsPacketOn plan s p → AreSamples p.body
 samples-in plan s p within = are-samples (item_on plan s) p.body within.feed.body
 
 -- a stream with something ready is there
-ready-there : (w : State) (s : ℕ) (p : Packet) (rest : List Packet) → (stream_at w s).ready ≡ p ∷ rest → s < length w.streams
+pub ready-there : (w : State) (s : ℕ) (p : Packet) (rest : List Packet) → (stream_at w s).ready ≡ p ∷ rest → s < length w.streams
 ready-there w s p rest is = by_order (cases_lt s (length w.streams))
   where
     none : [] ≡ p ∷ rest → ⊥

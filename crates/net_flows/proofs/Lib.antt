@@ -8,4 +8,5 @@ mod Ports
 mod Fitting
 mod Feeding
 mod Staying
+mod Beginning
 pub mod Laws

@@ -2,3 +2,4 @@ pub mod Lasting
 pub mod Forms
 pub mod Flows
 pub mod Closing
+pub mod Beginning

@@ -1,4 +1,5 @@
 //! Each law is a function that does nothing and promises it.
+ghost use Rattle.net_flows.specs.Beginning.{BegunIsSteady, MovesKeepSteady, SteadyIsReady};
 ghost use Rattle.net_flows.specs.Closing.{ClosedStays, DrainedStays, EventsKeepEnds, FurtherIsFinished};
 ghost use Rattle.net_flows.specs.Flows.{SteadyStays, UnseenFlows};
 
@@ -15,5 +16,16 @@ pub fn what_is_finished_stays_finished()
 /// of one stream.
 pub fn each_stream_stays_a_run()
     ensures events { SteadyStays }
+    ensures moves { MovesKeepSteady }
     ensures unseen { UnseenFlows }
+{}
+
+/// A run begins with all that lasts: each of its streams is a run, in which its Tx made what it has.
+pub fn each_stream_begins_as_a_run()
+    ensures { BegunIsSteady }
+{}
+
+/// What waits to enter may stand in its first queue.
+pub fn what_waits_may_enter()
+    ensures { SteadyIsReady }
 {}

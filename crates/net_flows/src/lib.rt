@@ -4,4 +4,7 @@
 
 mod law;
 
-pub use law::{each_stream_stays_a_run, what_is_finished_stays_finished};
+pub use law::{
+    each_stream_begins_as_a_run, each_stream_stays_a_run, what_is_finished_stays_finished,
+    what_waits_may_enter,
+};
