@@ -1,0 +1,4 @@
+pub mod Laws
+pub mod NodeLemmas
+pub mod ShapeLaws
+pub mod WiresLemmas

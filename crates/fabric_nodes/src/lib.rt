@@ -1,0 +1,11 @@
+//! What a net keeps of its network: the look-ups of its tree, and each node with what lies at it.
+#![tactic(auto)]
+
+pub mod law;
+mod node;
+mod packets;
+mod wires;
+
+pub use node::{NodePart, Site};
+pub use packets::Packets;
+pub use wires::Wires;
