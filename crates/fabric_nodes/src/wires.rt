@@ -4,7 +4,9 @@ ghost use Rattle.std.specs.Ordering.{nat_cmp};
 ghost use Rattle.net_topology.specs.Links.{end_of, end_port, link_at, start_of, start_port};
 ghost use Rattle.net_topology.specs.Ports.{link_bits};
 ghost use Rattle.net_topology.specs.Tree.{FitsNode, IsChecked, IsTree, node_with};
-ghost use Rattle.net_machine.specs.Nodes.{planned};
+ghost use Rattle.net_machine.specs.Nodes.{is_host_at, is_switch, own_epid, planned, slot_at, slot_by};
+ghost use Rattle.net_topology.specs.Leads.{turned_to};
+ghost use Rattle.std.specs.Option.{option_and_then};
 ghost use Rattle.net_machine.specs.Plans.{first_link};
 ghost use Rattle.fabric_nodes.specs.Lookups.{IsHolding, leaving_links};
 
@@ -117,6 +119,61 @@ impl Wires {
         self.link_at(node, 0)
     }
 
+    /// The link behind a port of the node at which directed link d ends, unless it is the same link.
+    pub fn turned_to(&self, d: u16, port: u8) -> Option<u16>
+        requires { d < 2 * length self.now.links }
+        ensures value { result ≡ turned_to self.now d port }
+        ensures there { IfSome result (λ e. e < 2 * length self.now.links) }
+    {
+        let (node, arrival) = self.end_at(d);
+        if port == arrival {
+            None
+        } else {
+            self.link_at(node, port)
+        }
+    }
+
+    /// Whether the node passes packets on by a table.
+    pub fn is_switch(&self, node: u16) -> bool
+        requires { node < length self.now.nodes }
+        ensures { result ≡ is_switch self.now node }
+    {
+        self.node(node).has_table()
+    }
+
+    /// Whether the node is a host.
+    pub fn is_host(&self, node: u16) -> bool
+        requires { node < length self.now.nodes }
+        ensures { result ≡ is_host_at self.now node }
+    {
+        match self.node(node) {
+            NodePlan::Host { .. } => true,
+            NodePlan::Crossbar { .. } | NodePlan::Adapter | NodePlan::Endpoint { .. } => false,
+        }
+    }
+
+    /// The EPID of an end node; no other node has one.
+    pub fn own_epid(&self, node: u16) -> Epid
+        requires { node < length self.now.nodes }
+        ensures { result ≡ own_epid self.now node }
+    {
+        match self.node(node).epid() {
+            Some(epid) => epid,
+            None => Epid(0),
+        }
+    }
+
+    /// The slot that an endpoint serves at a port: that of its bank, at the port of the bank's number.
+    pub fn slot_at(&self, node: u16, port: u16) -> Option<u16>
+        requires { node < length self.now.nodes }
+        ensures { result ≡ slot_at self.now node port }
+    {
+        match self.node(node) {
+            NodePlan::Endpoint { bank, .. } => slot_by(port, bank),
+            NodePlan::Crossbar { .. } | NodePlan::Adapter | NodePlan::Host { .. } => None,
+        }
+    }
+
     /// Bit p says that port p of the node has a link.
     pub fn link_bits(&self, node: u16, ports: u8) -> u32
         requires { ports ≤ 32 }
@@ -130,6 +187,15 @@ impl Wires {
             }
         }
         bits
+    }
+}
+
+fn slot_by(port: u16, bank: Option<u16>) -> Option<u16>
+    ensures { result ≡ option_and_then (slot_by port) bank }
+{
+    match bank {
+        Some(bank) => { if bank == port { Some(bank) } else { None } }
+        None => None,
     }
 }
 

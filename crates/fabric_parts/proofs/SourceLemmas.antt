@@ -1,8 +1,7 @@
 -- What a Tx's list has left, and the first of what is ready.
-use Rattle.std.proofs.Common.{◌≡◌, ℕ, zero, suc, ◌+◌, ◌-◌, ◌*◌, ◌<◌, ◌≤◌, not, true, List, [], ◌∷◌, ◌++◌, length, drop, refl, sym, ap, ◌∙◌, subst, arith, ◌%◌, ◌^◌, inl, inr, append_assoc, eqb, ltb, drop-cons, length-append, length-drop, Option, Some, None, slice_get}
-use Rattle.std.specs.Prelude.{option_map, is_some}
+use Rattle.std.proofs.Common.{◌≡◌, ℕ, zero, suc, ◌+◌, ◌-◌, ◌*◌, ◌<◌, ◌≤◌, not, true, List, [], ◌∷◌, ◌++◌, length, drop, refl, sym, ap, ◌∙◌, subst, arith, ◌%◌, ◌^◌, inl, inr, append_assoc, drop-cons, length-append, length-drop, Option, Some, None, slice_get}
+use Rattle.std.specs.Prelude.{option_map, is_none, is_some}
 use Rattle.std.specs.Int.{bytes_low_first}
-use Rattle.std.proofs.lemmas.Bool.Decides.{nat_tests}
 use Rattle.std.proofs.lemmas.List.{drop_all}
 use Rattle.block_library.proofs.Laws.{length-produced, get_or-produced}
 use Rattle.block_library.specs.Producer.{FitsPlan, packet_of, produced}
@@ -11,6 +10,7 @@ use Rattle.block_library.specs.declared.plan.TxPlan.{TxPlan}
 use Rattle.chdr_packets.specs.Length.{length_of}
 use Rattle.chdr_packets.specs.declared.packet.Packet.{Packet}
 use Rattle.chdr_words.specs.Wire.{time_bytes, wire_size_of}
+use Rattle.net_machine.specs.Blocks.{has_packet}
 use Rattle.fabric_parts.specs.Ready.{IsMaking, IsShort, SourceSeen, first_wire, offered_by, unmade, wire_of_each}
 
 length-sample : (i item number : ℕ) → length (bytes_low_first i item number) ≡ item
@@ -115,8 +115,9 @@ offer-view (Some plan) made front new p some is list =
     let offered : length new ≡ length front + 1 = omega (arith, ap length is, length-append front (p ∷ [])) in
     cc
 
-less-left : (a b : ℕ) → ltb a b ≡ not (eqb (b - a) 0)
-less-left a b = grind (arith, nat_tests)
+-- what has no first packet is empty
+pub none-first : (list : List Packet) → is_none (first_wire list) ≡ not (has_packet list)
+none-first [] = refl
+none-first (p ∷ ps) = refl
 
-pub has-left : (plan : TxPlan) (made : ℕ) → ltb made plan.packets ≡ not (eqb (length (drop made (produced plan))) 0)
-has-left plan made = rw (length-left plan made) (less-left made plan.packets)
+pub ruleset packet_lemmas = (none-first)

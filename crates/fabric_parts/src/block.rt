@@ -1,4 +1,4 @@
-ghost use Rattle.std.specs.Prelude.{◌≡◌, ◌<◌, ◌⊎◌, [], Some, None, IfOk, OnOk, OnErr};
+ghost use Rattle.std.specs.Prelude.{◌≡◌, ◌<◌, ◌⊎◌, [], Some, None, IfOk, IsTrue, OnOk, OnErr};
 ghost use Rattle.block_library.specs.Blocks.{FitsKind, IsFeed, inputs};
 ghost use Rattle.block_library.specs.Lines.{empty_line};
 ghost use Rattle.block_library.specs.Memory.{block_registers, gives, kept_of, lists, made};
@@ -47,6 +47,16 @@ impl BlockPart {
             block,
             line: Line::new(number),
         })
+    }
+
+    /// Whether the block takes a packet on an input: what `prepare` asks for.
+    pub fn takes(&self, port: u16, packet: &Packet) -> bool
+        ensures port { IsTrue result → port < inputs self.now.now.kept.kind }
+        ensures feed { IsTrue result → IsFeed self.now.now.kept.item packet.now }
+        ensures every { port < inputs self.now.now.kept.kind → IsFeed self.now.now.kept.item packet.now →
+            IsTrue result }
+    {
+        self.block.takes(port, packet)
     }
 
     /// Makes what the block will give for a packet but the packet itself, and the room for that.

@@ -1,5 +1,6 @@
-ghost use Rattle.std.specs.Prelude.{◌≡◌, ◌==◌, ◌+◌, ◌-◌, ◌<◌, ◌≤◌, [], ◌∷◌, true, false, not, length, slice_get, IfOk, IfSome, is_some, All, Some};
+ghost use Rattle.std.specs.Prelude.{◌≡◌, ◌+◌, ◌-◌, ◌<◌, ◌≤◌, [], ◌∷◌, true, false, not, length, slice_get, IfOk, IfSome, is_some, All, Some};
 ghost use Rattle.block_library.specs.Producer.{FitsPlan};
+ghost use Rattle.net_machine.specs.Blocks.{has_packet};
 ghost use Rattle.fabric_parts.specs.Ready.{IsMaking, IsShort, first_wire, most_offered, ready_first, unmade, wire_of_each};
 
 use block_library::TxPlan;
@@ -49,10 +50,11 @@ impl Source {
     }
 
     /// Whether nothing is ready.
+    #[tactic(auto, using(crate::proofs::SourceLemmas::packet_lemmas))]
     pub fn is_empty(&self) -> bool
-        ensures { result ≡ (length self.now.ready == 0) }
+        ensures { result ≡ not (has_packet self.now.ready) }
     {
-        self.front.is_empty() && !has_unmade(&self.tx, self.made)
+        self.first_wire().is_none()
     }
 
     /// The wire size of the first ready packet.
@@ -116,17 +118,6 @@ impl Source {
         ensures { self.new ≡ record self.old { ready = packets } }
     {
         self.front = VecDeque::from_vec(packets.into_vec());
-    }
-}
-
-/// Whether a Tx has packets that weren't offered, once so many were.
-fn has_unmade(tx: &Option<TxPlan>, made: u32) -> bool
-    requires { IsMaking tx.now made }
-    ensures { result ≡ not (length (unmade tx.now made) == 0) }
-{
-    match tx {
-        Some(plan) => made < plan.packets,
-        None => false,
     }
 }
 

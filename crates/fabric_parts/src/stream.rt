@@ -5,7 +5,7 @@ ghost use Rattle.chdr_packets.specs.declared.packet.Packet.{Packet as PacketValu
 ghost use Rattle.chdr_words.specs.Command.{FitsCommand};
 ghost use Rattle.chdr_words.specs.Status.{FitsStatus};
 ghost use Rattle.circular_buffer.specs.Buffer.{buffer};
-ghost use Rattle.stream_endpoint.specs.Counts.{is_none};
+ghost use Rattle.net_machine.specs.Blocks.{drained_by, has_packet};
 ghost use Rattle.stream_endpoint.specs.Flow.{IsValid};
 ghost use Rattle.stream_endpoint.specs.InEnd.{kept_receiver, status_of};
 ghost use Rattle.stream_endpoint.specs.Orders.{may_order};
@@ -28,7 +28,7 @@ use net_machine::{StreamEnd, StreamPlan, Tally};
 use rf_base::Memory;
 use std::alloc::Global;
 use std::marker::Model;
-use stream_endpoint::{Arrived, Count, InEnd, OutEnd};
+use stream_endpoint::{Arrived, Count, InEnd, OutEnd, OutState};
 
 /// A stream: both its ends, what its producer has for it, and what its consumer hasn't taken.
 ///
@@ -284,17 +284,138 @@ impl StreamPart {
 
     /// Whether nothing is ready.
     pub fn is_clear(&self) -> bool
-        ensures { result ≡ (length self.now.now.ready == 0) }
+        ensures { result ≡ not (has_packet self.now.now.ready) }
     {
         self.source.is_empty()
     }
 
-    /// Whether nothing is outstanding and the sender runs.
-    pub fn is_covered(&self) -> bool
-        ensures { result ≡ is_none self.now.now.sender.outstanding }
+    /// Whether all that was given is taken.
+    pub fn is_taken(&self) -> bool
+        ensures { result ≡ (self.now.now.taken == self.now.now.given) }
     {
-        self.out.covered()
+        self.taken == self.given
     }
+
+    /// Whether the stream is drained, whose producer is finished or not.
+    pub fn is_drained(&self, finished: bool) -> bool
+        ensures { result ≡ drained_by finished (front_now_of self.now.now) }
+    {
+        finished
+            && self.source.is_empty()
+            && self.out.state() == OutState::Running
+            && self.out.covered()
+            && self.taken == self.given
+    }
+
+    /// The stream as it was planned.
+    pub fn plan(&self) -> &StreamPlan
+        ensures same { result.now ≡ self.now.plan }
+        ensures valid { IsValid self.now.plan.flow }
+    {
+        &self.plan
+    }
+
+    /// Whether a Tx makes its packets.
+    pub fn is_tx(&self) -> bool
+        ensures { result ≡ self.now.is_tx }
+    {
+        self.source.is_tx()
+    }
+
+    /// How many packets were offered and not sent.
+    pub fn offered(&self) -> usize
+        ensures { result ≡ self.now.now.offered }
+    {
+        self.source.offered()
+    }
+
+    /// The first packet that was neither handed out nor fed to a block.
+    pub fn first_waiting(&self) -> Option<&Packet>
+        ensures { option_copied result ≡ slice_get self.now.now.waiting 0 }
+    {
+        self.waiting.front()
+    }
+
+    /// How many of the given packets were handed out or fed to a block.
+    pub fn handed(&self) -> u64
+        ensures value { result + length self.now.now.waiting ≡ self.now.now.given }
+        ensures taken { self.now.now.taken ≤ result }
+    {
+        self.given - self.waiting.len() as u64
+    }
+
+    /// How many packets were sent.
+    pub fn sent(&self) -> u64
+        ensures { result ≡ self.now.now.sent }
+    {
+        self.sent
+    }
+
+    /// How many packets were given.
+    pub fn given(&self) -> u64
+        ensures { result ≡ self.now.now.given }
+    {
+        self.given
+    }
+
+    /// How many of the given packets are taken.
+    pub fn taken(&self) -> u64
+        ensures { result ≡ self.now.now.taken }
+    {
+        self.taken
+    }
+
+    /// How many statuses were sent.
+    pub fn statuses(&self) -> u64
+        ensures { result ≡ self.now.now.statuses }
+    {
+        self.statuses
+    }
+
+    /// How many commands were sent.
+    pub fn commands(&self) -> u64
+        ensures { result ≡ self.now.now.commands }
+    {
+        self.commands
+    }
+
+    /// What the stream did.
+    pub fn tally(&self) -> Tally
+        requires { self.now.now.cuts < 2 ^ 64 - 1 }
+        ensures { result ≡ tally_now self.now.now }
+    {
+        Tally {
+            sent: self.sent,
+            delivered: self.taken,
+            acked: acked(self.sent, self.out.outstanding()),
+            epochs: self.cuts + 1,
+            peak_bytes: self.peak.bytes,
+            peak_packets: self.peak.packets,
+        }
+    }
+
+    /// How the stream stands, if it isn't drained.
+    pub fn undrained(&self) -> StreamEnd
+        ensures { result ≡ undrained_now self.now.now }
+    {
+        match self.into.broken() {
+            Some(gap) => StreamEnd::Broken {
+                expected: gap.expected,
+                got: gap.got,
+            },
+            None => StreamEnd::Undrained {
+                sent: self.sent,
+                acked: acked(self.sent, self.out.outstanding()),
+            },
+        }
+    }
+}
+
+/// How many packets of those that were sent aren't outstanding.
+fn acked(sent: u64, outstanding: Count) -> u64
+    ensures { result ≡ sent - outstanding.packets }
+{
+    sent.saturating_sub(outstanding.packets)
 }
 
 /// The greater of both counts, in packets and in bytes.
