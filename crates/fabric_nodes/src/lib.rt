@@ -9,3 +9,6 @@ mod wires;
 pub use node::{NodePart, Site};
 pub use packets::Packets;
 pub use wires::Wires;
+
+#[cfg(test)]
+mod tests;
