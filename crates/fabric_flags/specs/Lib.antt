@@ -1,0 +1,2 @@
+pub mod FlagView
+pub mod Set
