@@ -1,5 +1,3 @@
-ghost use Rattle.std.specs.Prelude.{◌≡◌, IfOk};
-
 use crate::{NodePart, Packets, Wires};
 use chdr_packets::{Body, Packet};
 use chdr_words::{Bytes, Epid, EpidList};

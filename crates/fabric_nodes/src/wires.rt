@@ -1,7 +1,7 @@
-ghost use Rattle.std.specs.Prelude.{◌≡◌, ◌+◌, ◌*◌, ◌^◌, ◌<◌, ◌≤◌, ℕ, length, None, Some, IfOk, IfSome, IsTrue, slice_get, slice_index_or};
+ghost use Rattle.std.specs.Prelude.{◌≡◌, ◌+◌, ◌*◌, ◌^◌, ◌<◌, ◌≤◌, length, None, Some, IfOk, IfSome};
 ghost use Rattle.std.specs.BTreeMap as tree;
 ghost use Rattle.std.specs.Ordering.{nat_cmp};
-ghost use Rattle.net_topology.specs.Links.{end_of, end_port, link_at, start_of, start_port};
+ghost use Rattle.net_topology.specs.Links.{end_of, end_port, link_at};
 ghost use Rattle.net_topology.specs.Ports.{link_bits};
 ghost use Rattle.net_topology.specs.Tree.{FitsNode, IsChecked, IsTree, node_with};
 ghost use Rattle.net_machine.specs.Nodes.{is_host_at, is_switch, own_epid, planned, slot_at, slot_by};

@@ -1,4 +1,4 @@
-ghost use Rattle.std.specs.Prelude.{◌≡◌, ◌+◌, ◌-◌, ◌<◌, ◌≤◌, [], ◌∷◌, true, false, not, length, slice_get, IfOk, IfSome, is_some, All, Some};
+ghost use Rattle.std.specs.Prelude.{◌≡◌, ◌+◌, ◌-◌, ◌<◌, [], ◌∷◌, true, false, not, length, slice_get, IfOk, IfSome, is_some, All, Some};
 ghost use Rattle.block_library.specs.Producer.{FitsPlan};
 ghost use Rattle.net_machine.specs.Blocks.{has_packet};
 ghost use Rattle.fabric_parts.specs.Ready.{IsMaking, IsShort, first_wire, most_offered, ready_first, unmade, wire_of_each};

@@ -1,4 +1,4 @@
-ghost use Rattle.std.specs.Prelude.{◌≡◌, ◌==◌, ◌+◌, ◌-◌, ◌^◌, ◌<◌, ◌≤◌, [], ◌∷◌, ℕ, List, true, false, not, max, min, length, drop, take, sum, slice_get, option_copied, IsTrue, IfOk, IfSome, is_some, All, Some, nat_lt};
+ghost use Rattle.std.specs.Prelude.{◌≡◌, ◌==◌, ◌+◌, ◌-◌, ◌^◌, ◌<◌, ◌≤◌, [], ◌∷◌, List, true, false, not, max, length, drop, take, sum, slice_get, option_copied, IsTrue, IfOk, IfSome, is_some, All, Some, nat_lt};
 ghost use Rattle.block_library.specs.Producer.{FitsPlan};
 ghost use Rattle.chdr_packets.specs.Length.{wire_of};
 ghost use Rattle.chdr_packets.specs.declared.packet.Packet.{Packet as PacketValue};
@@ -17,7 +17,7 @@ ghost use Rattle.net_machine.specs.Streams.{most, numbered};
 ghost use Rattle.net_present.specs.Present.{front_now_of};
 ghost use Rattle.net_present.specs.StreamSteps.{cuts_by, sum_now, fed_now, gets_now, gets_order_now, gets_status_now, readies_now, receiving_now, sending_now, sends_first_now, sends_order_now, sends_status_now, taken_now};
 ghost use Rattle.fabric_parts.specs.Ready.{IsShort, most_offered, ready_first};
-ghost use Rattle.fabric_parts.specs.Streams.{acked_now, begun_now, hands_now, offers_now, on_stream, tally_now, undrained_now};
+ghost use Rattle.fabric_parts.specs.Streams.{begun_now, hands_now, offers_now, on_stream, tally_now, undrained_now};
 
 use crate::Source;
 use block_library::TxPlan;
