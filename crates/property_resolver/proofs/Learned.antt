@@ -5,19 +5,18 @@ use Rattle.std.proofs.lemmas.Bool.{cases_eq}
 use Rattle.std.proofs.lemmas.List.Elements.{Contains-append_left, Contains-push}
 use Rattle.graph_core.specs.declared.place.Side.{Side}
 use Rattle.graph_core.specs.declared.place.PropAt.{PropAt}
-use Rattle.graph_core.specs.declared.place.Edge.{Edge}
 use Rattle.graph_core.specs.declared.place.Rule.{Rule}
 use Rattle.block_library.specs.declared.kind.BlockKind.{BlockKind}
 use Rattle.property_resolver.specs.declared.fault.CommitFault.{CommitFault}
 use Rattle.property_resolver.specs.declared.fault.CommitFault.TheVariants.{Clash, NotWhole, Unsettled, Memory}
-use Rattle.graph_core.specs.Derivation.{Diagram, IsDerivation, Gives, across, carried}
+use Rattle.graph_core.specs.Derivation.{Diagram, IsDerivation, Gives, carried}
 use Rattle.graph_core.specs.Derivation.IsDerivation.{given}
-use Rattle.graph_core.specs.declared.place.Rule.TheVariants.{Edge as edge_rule, Block as block_rule}
+use Rattle.graph_core.specs.declared.place.Rule.TheVariants.{Block as block_rule}
 use Rattle.std.specs.Option.{option_map_or}
 use Rattle.graph_core.specs.Ports.{port_count}
 use Rattle.graph_core.specs.Pairs.{Pair}
 use Rattle.property_resolver.specs.Causes.{IsCause}
-use Rattle.property_resolver.specs.Spreads.{Learns, Contradicts, Grows, EdgesSpread, PortsSpread, beside}
+use Rattle.property_resolver.specs.Spreads.{Learns, Contradicts, Grows, PortsSpread, beside}
 use Rattle.property_resolver.specs.Spreads.Learns.{known, added}
 
 same_some : {u v : ℕ} → Some u ≡ Some v → u ≡ v
@@ -89,11 +88,6 @@ module _ (diagram : Diagram) where
     carries = e;
   }
 
-  -- what an edge gives at its other end
-  pub edge_gives : (index : ℕ) (d : Edge) → index < length diagram.edges → (at : PropAt) (value : ℕ) (to : PropAt) → across (get_or diagram.edges index d) at ≡ Some to
-      → Gives diagram (edge_rule index) at value to (Some value)
-  edge_gives index d lt at value to over = record { edge = get_or diagram.edges index d; stands = got diagram.edges index d lt; joins = over; equal = refl }
-
   module _ (old mid new : List Pair) (grown : Grows diagram old mid) (at : PropAt) (value : ℕ) (there : Contains old (at, value)) where
     pub ports_step : (kind : BlockKind) (side : Side) (port derived : ℕ) → slice_get diagram.kinds at.block ≡ Some kind → port < port_count side kind
         → Some derived ≡ carried kind at.prop at.side side value → PortsSpread kind side port mid at value → Learns mid new (beside at side port) derived
@@ -111,26 +105,3 @@ module _ (diagram : Diagram) where
                 (cases_eq k port);
           },
         )
-
-    module _ (index : ℕ) (d : Edge) (lt : index < length diagram.edges) (so : EdgesSpread diagram.edges index mid at value) where
-      stands : slice_get diagram.edges index ≡ Some (get_or diagram.edges index d)
-      stands = got diagram.edges index d lt
-
-      pub edges_pass : across (get_or diagram.edges index d) at ≡ None → EdgesSpread diagram.edges (index + 1) mid at value
-      edges_pass none number edge to below e over = ⊎_elim
-          (λ same. let z : ◌≡◌ {A = Option PropAt} None (Some to) = sym none ∙ ap (λ x. across x at) (same_item (sym stands ∙ subst (λ i. slice_get diagram.edges i ≡ Some edge) same e)) ∙ over in absurd cc)
-          (λ other. so number edge to (omega arith) e over)
-          (cases_eq number index)
-
-      pub edges_step : (to : PropAt) → across (get_or diagram.edges index d) at ≡ Some to → Learns mid new to value
-          → Grows diagram old new × EdgesSpread diagram.edges (index + 1) new at value
-      edges_step to some learns =
-          let more = learns_grows mid new to value learns grown.derivation (edge_rule index) at value (kept old mid grown at value there)
-          (record { edge = get_or diagram.edges index d; stands = stands; joins = some; equal = refl }) in (
-            grows_more old mid new grown more,
-            λ number edge to' below e over. ⊎_elim
-                (λ same. subst (λ q. Contains new (q, value)) (same_item (sym some ∙ ap (λ x. across x at) (same_item (sym stands ∙ subst (λ i. slice_get diagram.edges i ≡ Some edge) same e)) ∙ over))
-                (learnt mid new to value learns))
-                (λ other. kept mid new more to' value (so number edge to' (omega arith) e over))
-                (cases_eq number index),
-          )

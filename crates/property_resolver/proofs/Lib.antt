@@ -1,8 +1,8 @@
 mod Bounded
 mod Closing
-mod Counted
 mod Decided
 mod Found
+mod Joining
 mod Learned
 mod Listed
 mod Passed

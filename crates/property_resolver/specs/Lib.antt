@@ -3,3 +3,4 @@ pub mod Missing
 pub mod Outcome
 pub mod Work
 pub mod Spreads
+pub mod Joined

@@ -2,9 +2,11 @@ ghost use Rattle.std.specs.Prelude.{◌+◌, ◌≤◌, OnOk, IfOk, IfErr};
 ghost use Rattle.graph_core.specs.Derivation.{IsDerivation, IsClosed, Settles};
 ghost use Rattle.graph_core.specs.State.{IsDiagram};
 ghost use Rattle.property_resolver.specs.Causes.{IsCause};
+ghost use Rattle.property_resolver.specs.Joined.{AreOf};
 ghost use Rattle.property_resolver.specs.Spreads.{HasAll};
 ghost use Rattle.property_resolver.specs.Work.{most_work};
 
+use crate::joins::Joins;
 use crate::missing::missing;
 use crate::spread::spread;
 use crate::start::users_values;
@@ -15,9 +17,11 @@ use std::sync::ledger::Ledger;
 /// Gives each value on, the new ones last, until nothing new comes.
 fn close<L: Ledger>(
     graph: &Graph,
+    joins: &Joins,
     values: &mut Values,
     steps: &mut Steps<L>,
 ) -> Result<(), CommitFault>
+    requires joins { AreOf joins.now graph.now.diagram.edges }
     requires diagram { IsDiagram graph.now.diagram }
     requires derived { IsDerivation graph.now.diagram values.old }
     requires users { HasAll graph.now.diagram.users values.old }
@@ -28,7 +32,7 @@ fn close<L: Ledger>(
 {
     let mut next = 0;
     while let Some((at, value)) = values.pair(next) {
-        spread(graph, values, at, value, steps)?;
+        spread(graph, joins, values, at, value, steps)?;
         next += 1;
     }
     Ok(())
@@ -43,7 +47,7 @@ pub(crate) fn derive<L: Ledger>(graph: &Graph, steps: &mut Steps<L>) -> Result<V
 {
     let kinds = graph.kinds().as_slice();
     let mut values = users_values(graph)?;
-    close(graph, &mut values, steps)?;
+    close(graph, &Joins::of(graph), &mut values, steps)?;
     match missing(&values, kinds) {
         Some(at) => Err(CommitFault::Unsettled { at }),
         None => Ok(values),

@@ -3,6 +3,7 @@
 
 mod derive;
 mod fault;
+mod joins;
 mod learn;
 mod missing;
 mod resolve;

@@ -2,24 +2,28 @@ ghost use Rattle.std.specs.Prelude.{◌≡◌, ◌+◌, ◌≤◌, Contains, OnO
 ghost use Rattle.block_library.specs.Blocks.{FitsKind};
 ghost use Rattle.graph_core.specs.Derivation.{IsDerivation, IsSpread};
 ghost use Rattle.property_resolver.specs.Causes.{IsCause};
+ghost use Rattle.property_resolver.specs.Joined.{AreOf, far_end};
 ghost use Rattle.property_resolver.specs.Spreads.{AllEdgesSpread, Grows, SideSpread};
 ghost use Rattle.property_resolver.specs.Work.{edge_work};
 
+use crate::joins::Joins;
 use crate::learn::learn;
 use crate::rule::{across, carried};
 use crate::{CommitFault, Steps};
 use block_library::BlockKind;
-use graph_core::{Graph, PropAt, Rule, Side, Values, port_count};
+use graph_core::{Edge, Graph, PropAt, Rule, Side, Values, port_count};
 use std::sync::ledger::Ledger;
 
-/// Applies each edge at the property to its value.
+/// Applies the edge at the property, if there is one, to its value.
 fn spread_edges<L: Ledger>(
     graph: &Graph,
+    joins: &Joins,
     values: &mut Values,
     at: PropAt,
     value: u64,
     steps: &mut Steps<L>,
 ) -> Result<(), CommitFault>
+    requires joins { AreOf joins.now graph.now.diagram.edges }
     requires derived { IsDerivation graph.now.diagram values.old }
     requires held { Contains values.old (at, value) }
     ensures grows { OnOk result (Grows graph.now.diagram values.old values.new) }
@@ -28,14 +32,25 @@ fn spread_edges<L: Ledger>(
     ensures rises { steps.old ≤ steps.new }
     ensures cost { steps.new ≤ steps.old + edge_work graph.now.diagram.edges at }
 {
-    let edges = graph.edges().as_slice();
-    for (number, edge) in edges.iter().enumerate() {
-        if let Some(to) = across(edge, at) {
-            steps.tick();
-            learn(values, Rule::Edge(number as u16), to, value)?;
-        }
-    }
+    let Some(number) = joins.at(at) else {
+        return Ok(());
+    };
+    let Some(to) = far_end(graph.edges().as_slice(), number, at) else {
+        return Ok(());
+    };
+    steps.tick();
+    learn(values, Rule::Edge(number), to, value)?;
     Ok(())
+}
+
+/// The property at the other end of the edge of that number.
+fn far_end(edges: &[Edge], number: u16, at: PropAt) -> Option<PropAt>
+    ensures { result ≡ far_end edges.now number at }
+{
+    match edges.get(number as usize) {
+        Some(edge) => across(edge, at),
+        None => None,
+    }
 }
 
 /// Gives the value on to each port on one side of the property's block.
@@ -83,11 +98,13 @@ fn kind_of(kinds: &[BlockKind], block: u16) -> Option<BlockKind>
 /// Gives the value on by the edges at the property and by its block.
 pub(crate) fn spread<L: Ledger>(
     graph: &Graph,
+    joins: &Joins,
     values: &mut Values,
     at: PropAt,
     value: u64,
     steps: &mut Steps<L>,
 ) -> Result<(), CommitFault>
+    requires joins { AreOf joins.now graph.now.diagram.edges }
     requires derived { IsDerivation graph.now.diagram values.old }
     requires held { Contains values.old (at, value) }
     ensures grows { OnOk result (Grows graph.now.diagram values.old values.new) }
@@ -96,7 +113,7 @@ pub(crate) fn spread<L: Ledger>(
     ensures rises { steps.old ≤ steps.new }
     ensures cost { steps.new ≤ steps.old + (1 + edge_work graph.now.diagram.edges at) }
 {
-    spread_edges(graph, values, at, value, steps)?;
+    spread_edges(graph, joins, values, at, value, steps)?;
     steps.tick();
     let Some(kind) = kind_of(graph.kinds().as_slice(), at.block) else {
         return Ok(());
