@@ -1,11 +1,11 @@
-ghost use Rattle.std.specs.Prelude.{◌≡◌, ◌<◌, IsTrue};
+ghost use Rattle.std.specs.Prelude.{◌≡◌, ◌<◌, Contains, IfOk, IsTrue};
 ghost use Rattle.block_library.specs.Blocks.{FitsKind};
 
 mod plain;
 
 use crate::{CommitFault, Rule, Steps, commit};
 use block_library::BlockKind;
-use graph_core::{ConnectFault, Graph, PortAt, Prop, PropAt, SetFault, Side};
+use graph_core::{ConnectFault, Edge, Graph, PortAt, Prop, PropAt, SetFault, Side};
 use rf_base::Memory;
 use std::alloc::Global;
 use std::marker::Brand;
@@ -25,6 +25,21 @@ fn counted<L: Ledger>(blank: Blank, graph: &mut Graph) -> (Result<(), CommitFaul
 
 fn resolve(graph: &mut Graph) -> (Result<(), CommitFault>, u64) {
     counted::<Brand>(Blank::new(1), graph)
+}
+
+/// Commits a graph, and reads the rates at both ends of one of its edges: they are the same.
+fn rates_of<L: Ledger>(
+    graph: &mut Graph,
+    edge: Edge,
+    steps: &mut Steps<L>,
+) -> Result<(Option<u64>, Option<u64>), CommitFault>
+    requires { Contains graph.old.diagram.edges edge }
+    ensures { IfOk result (λ rates. rates.0 ≡ rates.1) }
+{
+    commit(graph, steps)?;
+    let out = graph.value(property(edge.from.block, Side::Out, edge.from.port, Prop::Rate));
+    let into = graph.value(property(edge.to.block, Side::Into, edge.to.port, Prop::Rate));
+    Ok((out, into))
 }
 
 fn is_kind(kind: BlockKind) -> bool
@@ -73,7 +88,9 @@ fn value(graph: &Graph, at: PropAt) -> Option<u64> {
     graph.value(at)
 }
 
-fn property(block: u16, side: Side, port: u16, prop: Prop) -> PropAt {
+fn property(block: u16, side: Side, port: u16, prop: Prop) -> PropAt
+    ensures { result ≡ record { block = block; side = side; port = port; prop = prop } }
+{
     PropAt {
         block,
         side,
