@@ -1,0 +1,4 @@
+//! What holds of a network in each of its states, from the building of it on.
+//!
+//! Rule: docs/machine.md, "What always holds".
+#![tactic(auto)]
