@@ -1,10 +1,9 @@
 -- What an event does to nodes, and that it asks nothing.
-use Rattle.std.proofs.Common.{◌≡◌, ℕ, ◌+◌, Bool, true, false, List, [], ◌∷◌, ◌++◌, length, refl, sym, ◌∙◌, ap, subst, set, get_or, if◌then◌else◌}
+use Rattle.std.proofs.Common.{◌≡◌, ℕ, ◌+◌, Bool, true, false, List, [], ◌∷◌, ◌++◌, refl, if◌then◌else◌}
 use Rattle.std.specs.Prelude.{Option, Some, None, slice_get}
 use Rattle.std.specs.Option.{option_map_or}
 use Rattle.rf_base.proofs.Places.{one-set}
 use Rattle.block_library.specs.Memory.{gives}
-use Rattle.block_registers.specs.Operations.{answer}
 use Rattle.chdr_packets.specs.declared.packet.Body.{Body}
 use Rattle.chdr_packets.specs.declared.packet.Body.TheVariants as body
 use Rattle.chdr_packets.specs.declared.packet.Packet.{Packet}
@@ -14,14 +13,14 @@ use Rattle.net_machine.specs.declared.event.Event.{Event}
 use Rattle.net_machine.specs.declared.event.Event.TheVariants.{Enter, Hop, Seen, Feed, Report, Command, Lose, Reply, Ask}
 use Rattle.net_machine.specs.declared.plan.BlockPlan.{BlockPlan}
 use Rattle.net_machine.specs.Blocks.{kept_at}
-use Rattle.net_machine.specs.Effects.{after, answers_host, arrives, asks_first, enters, enters_over, feeds, feeds_from, gives_out, hears_status, hops, leaves, loses_front, on_any_stream, on_node, on_stream, operates, orders, passes, pends, replies_first, reports, stream_of}
+use Rattle.net_machine.specs.Effects.{after, answers_host, arrives, asks_first, enters, enters_over, feeds, feeds_from, gives_out, hears_status, hops, leaves, loses_front, on_any_stream, on_node, on_stream, operates, passes, pends, replies_first, stream_of}
 use Rattle.net_machine.specs.Faults.{is_named}
 use Rattle.net_machine.specs.Nodes.{is_host_at, own_epid, route_from}
 use Rattle.net_machine.specs.Passing.{Outcome, Passes, Returns, Arrives, Ends, passing}
 use Rattle.net_machine.specs.Plans.{block_at, first_link, plan_at, stream_from, stream_into, stream_out_of, stream_to}
 use Rattle.net_machine.specs.Queues.{back_vc, channel_of, forward_vc, link_of_queue}
 use Rattle.net_machine.specs.State.{Entry, Message, Node, State, Stream, Tag, blank, node_at, node_in, queue_at, stream_at}
-use Rattle.net_machine.specs.Streams.{counts_in, gets, gets_order, gets_status, loses, readies, sends_first, sends_order, sends_status, taken_to, told_in}
+use Rattle.net_machine.specs.Streams.{counts_in, gets, gets_order, loses, readies, sends_first, sends_order, sends_status, taken_to}
 
 -- nothing was asked on the way from one state to the other, and what became of each node
 pub record IsCalm (N : Node → Node → Type 0) (w v : State) : Type 0 where

@@ -1,5 +1,5 @@
 -- What holds of each entry as it enters, and of packets as they walk, holds of each entry of each queue.
-use Rattle.std.proofs.Common.{◌≡◌, ℕ, ◌+◌, Bool, true, false, List, [], ◌∷◌, ◌++◌, length, refl, subst, set, if◌then◌else◌}
+use Rattle.std.proofs.Common.{◌≡◌, ℕ, ◌+◌, Bool, true, false, List, [], ◌∷◌, ◌++◌, length, refl, subst, if◌then◌else◌}
 use Rattle.std.specs.Prelude.{Option, Some, None, slice_get, nat_lt, ◌==◌}
 use Rattle.std.specs.Option.{option_map_or}
 use Rattle.std.specs.List.{AllByRecursion}
@@ -22,12 +22,12 @@ use Rattle.net_machine.specs.declared.event.Event.{Event}
 use Rattle.net_machine.specs.declared.event.Event.TheVariants.{Enter, Hop, Seen, Feed, Report, Command, Lose, Reply, Ask}
 use Rattle.net_machine.specs.declared.plan.BlockPlan.{BlockPlan}
 use Rattle.net_machine.specs.Blocks.{kept_at}
-use Rattle.net_machine.specs.Effects.{after, answers_host, arrives, asks_first, enters, enters_over, feeds, feeds_from, gives_out, hears_status, hops, joins, leaves, loses_front, on_any_stream, on_node, on_stream, operates, orders, passes, pends, replies_first, reports, stream_of}
+use Rattle.net_machine.specs.Effects.{after, answers_host, arrives, asks_first, enters, enters_over, feeds, feeds_from, gives_out, hears_status, hops, joins, leaves, loses_front, on_any_stream, on_node, on_stream, operates, passes, pends, replies_first, stream_of}
 use Rattle.net_machine.specs.Nodes.{exits_of, is_host_at, is_switch, own_epid, route_from, site_at}
 use Rattle.net_machine.specs.Passing.{Outcome, Passes, Returns, Arrives, Ends, by_table, goes_on, leaves_by, message, passing, passing_by, walked_by, walking}
 use Rattle.net_machine.specs.Plans.{block_at, first_link, plan_at, stream_from, stream_into, stream_out_of, stream_to}
 use Rattle.net_machine.specs.Queues.{back_vc, channel_of, forward_vc, link_of_queue, queue_of}
-use Rattle.net_machine.specs.State.{Entry, Message, Node, Order, Report as Reported, Sample, State, Stream, Tag, node_at, node_in, queue_at, stream_at}
+use Rattle.net_machine.specs.State.{Entry, Message, Node, Order, Report as Reported, Sample, State, Stream, Tag, node_at, queue_at, stream_at}
 use Rattle.net_machine.specs.Streams.{counts_in, entering, gets, gets_order, loses, readies, receiving_of, sending_of, taken_to}
 use Rattle.net_lawful.specs.Messages.{EachEntry}
 

@@ -1,46 +1,30 @@
 -- What a block gives for a packet is what its streams have ready then, behind what it made before.
-use Rattle.std.proofs.Common.{◌≡◌, ◌≢◌, ℕ, ◌+◌, ◌%◌, ◌^◌, ◌≤◌, ◌<◌, ◌⊎◌, inl, inr, Bool, true, false, IsTrue, List, [], ◌∷◌, ◌++◌, length, take, refl, sym, ◌∙◌, ap, subst, get_or, set, arith, append_assoc, append-nil, eq-eqb, zero, suc, if◌then◌else◌}
-use Rattle.std.specs.Prelude.{Option, Some, None, IsSome, slice_get, slice_index_or, ◌==◌}
-use Rattle.std.specs.Option.{option_and_then, option_map_or}
-use Rattle.std.proofs.lemmas.Bool.{cases_Bool, eqb-true, false≢true}
-use Rattle.std.proofs.lemmas.List.{get_or-set_other, get_or-set_same, get_or_past, length-append, length-set}
-use Rattle.std.proofs.lemmas.List.Quantifiers.{position-Some}
-use Rattle.std.proofs.lemmas.Option.{get_or_from_slice_get, none-some, option_and_then_some, same_Some, slice_get_cases, slice_get_within}
+use Rattle.std.proofs.Common.{◌≡◌, ◌≢◌, ℕ, ◌+◌, ◌<◌, Bool, true, false, List, [], ◌∷◌, ◌++◌, length, take, refl, sym, ◌∙◌, ap, subst, arith, append_assoc, append-nil, eq-eqb, zero, suc, if◌then◌else◌}
+use Rattle.std.specs.Prelude.{Option, Some, None, slice_get, ◌==◌}
+use Rattle.std.specs.Option.{option_map_or}
+use Rattle.std.proofs.lemmas.Bool.{eqb-true, false≢true}
+use Rattle.std.proofs.lemmas.List.{get_or-set_other, get_or-set_same, length-append, length-set}
 use Rattle.rf_base.proofs.Places.{one-set}
 use Rattle.block_library.specs.Blocks.{Lists, alone, block_of, inputs, joined, outputs}
-use Rattle.block_library.specs.Memory.{gives, kept_of, lists}
+use Rattle.block_library.specs.Memory.{lists}
 use Rattle.block_library.specs.Producer.{produced}
 use Rattle.block_library.specs.declared.kind.BlockKind.{BlockKind}
 use Rattle.block_library.specs.declared.kind.BlockKind.TheVariants.{Tx, Rx, Fifo, Split, Keep, Repeat, Replay, Switch, Sink}
-use Rattle.block_library.proofs.Laws.{history_goes_on}
 use Rattle.chdr_packets.specs.declared.packet.Packet.{Packet}
 use Rattle.chdr_words.specs.declared.epid.Epid.{Epid}
-use Rattle.net_topology.specs.Tree.{FitsNode, FitsPlan, IsTree, epid_of, node_with}
-use Rattle.net_topology.specs.declared.plan.NodePlan.{NodePlan}
-use Rattle.net_topology.specs.declared.plan.NodePlan.TheVariants.{Crossbar, Adapter, Host, Endpoint}
 use Rattle.net_topology.specs.declared.plan.Plan.{Plan}
-use Rattle.net_topology.proofs.Laws.{epids_name_nodes}
-use Rattle.net_machine.specs.declared.event.Event.TheVariants.{Feed}
 use Rattle.net_machine.specs.declared.plan.BlockPlan.{BlockPlan}
 use Rattle.net_machine.specs.declared.plan.RunPlan.{RunPlan}
 use Rattle.net_machine.specs.declared.plan.StreamPlan.{StreamPlan}
 use Rattle.net_machine.specs.Begin.{source_of}
-use Rattle.net_machine.specs.Blocks.{kept_at}
-use Rattle.net_machine.specs.CanBegin.{from_of, output_at, stands_at}
-use Rattle.net_machine.specs.Effects.{after, feeds, feeds_from, gives_out, on_any_stream, on_stream}
-use Rattle.net_machine.specs.Moves.{Happens}
-use Rattle.net_machine.specs.Nodes.{is_endpoint, is_host, planned}
-use Rattle.net_machine.specs.Plain.{given_at, is_second, made_for, numbered_from}
-use Rattle.net_machine.specs.Plans.{block_at, is_from, is_rx, is_tx, no_epid, no_stream, plan_at, producer_of, stream_from, stream_into, stream_out_of}
+use Rattle.net_machine.specs.Effects.{gives_out, on_any_stream, on_stream}
+use Rattle.net_machine.specs.Plain.{given_at, is_second, numbered_from}
+use Rattle.net_machine.specs.Plans.{block_at, is_tx, plan_at, producer_of, stream_into, stream_out_of}
 use Rattle.net_machine.specs.State.{State, Stream, idle, stream_at}
 use Rattle.net_machine.specs.Streams.{readies, taken_of, taken_to}
-use Rattle.net_machine.proofs.Laws.{shape_stays}
-use Rattle.net_flows.specs.Flows.{IsSteady}
 use Rattle.net_flows.specs.Lasting.{IsSound}
-use Rattle.net_lawful.specs.Made.{HasMade, HaveMade}
-use Rattle.net_lawful.specs.Messages.{FitsTree}
-use Rattle.net_lawful.proofs.Making.{IsMade, fed-same, fed_by, length-numbered, made-inputs, made-on, made_by, made_at, numbered-append, takens}
-use Rattle.net_lawful.proofs.Planned.{begins-there, ends-there, has-output, held, input-within, once, output-within, producer-is}
+use Rattle.net_lawful.proofs.Making.{fed-same, fed_by, length-numbered, made_by, made_at, numbered-append, takens}
+use Rattle.net_lawful.proofs.Planned.{once}
 
 -- ---- what becomes ready, and what is taken
 

@@ -1,7 +1,7 @@
 -- Nodes stay fit, and so do requests, answers and management packets, wherever they are.
-use Rattle.std.proofs.Common.{◌≡◌, ℕ, ◌+◌, ◌-◌, ◌*◌, ◌^◌, ◌<◌, ◌≤◌, ◌⊎◌, inl, inr, Bool, true, false, List, [], ◌∷◌, ◌++◌, length, drop, fold, map, refl, sym, ◌∙◌, ap, subst, get_or, set, arith, suc, if◌then◌else◌, length-append}
-use Rattle.std.specs.Prelude.{Option, Some, None, IfSome, nat_lt, slice_get, ◌==◌}
-use Rattle.std.specs.List.{range_with_len, sum_by}
+use Rattle.std.proofs.Common.{◌≡◌, ℕ, ◌+◌, ◌-◌, ◌*◌, ◌^◌, ◌<◌, ◌≤◌, ◌⊎◌, inl, inr, Bool, true, false, List, [], ◌∷◌, length, drop, fold, refl, sym, ◌∙◌, ap, subst, get_or, set, arith, suc, if◌then◌else◌, length-append}
+use Rattle.std.specs.Prelude.{Option, Some, None, IfSome, nat_lt, slice_get}
+use Rattle.std.specs.List.{sum_by}
 use Rattle.std.specs.Option.{option_and_then, option_map_or}
 use Rattle.std.proofs.lemmas.Bool.{false≢true}
 use Rattle.std.proofs.lemmas.List.{length-map}
@@ -10,9 +10,8 @@ use Rattle.std.proofs.lemmas.List.FromFn.{length-range_with_len}
 use Rattle.std.proofs.lemmas.List.Sums.{sum_by-cons, sum_by-set}
 use Rattle.std.proofs.lemmas.Option.{slice_get_cases}
 use Rattle.block_registers.specs.Operations.{Place as Port, accepts, acknowledgement, answer, outcome, reads_op, words_from, words_in, words_of}
-use Rattle.chdr_packets.specs.Fits.{FitsBody, FitsPacket}
+use Rattle.chdr_packets.specs.Fits.{FitsBody}
 use Rattle.chdr_packets.specs.Length.{body_length}
-use Rattle.chdr_packets.specs.declared.packet.Body.{Body}
 use Rattle.chdr_packets.specs.declared.packet.Body.TheVariants as body
 use Rattle.chdr_packets.specs.declared.packet.Packet.{Packet}
 use Rattle.chdr_words.specs.Control.{FitsControl}

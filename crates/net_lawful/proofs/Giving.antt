@@ -1,13 +1,13 @@
 -- A feeding keeps it that what was sent and is ready is what was made.
-use Rattle.std.proofs.Common.{◌≡◌, ◌≢◌, ℕ, ◌+◌, ◌≤◌, ◌<◌, ◌⊎◌, inl, inr, Bool, true, false, IsTrue, List, [], ◌∷◌, ◌++◌, length, refl, sym, ◌∙◌, ap, subst, get_or, arith, append-nil, eq-eqb, zero, suc, if◌then◌else◌}
-use Rattle.std.specs.Prelude.{Option, Some, None, IsSome, slice_get, ◌==◌, ◌||◌}
+use Rattle.std.proofs.Common.{◌≡◌, ℕ, ◌+◌, ◌≤◌, ◌<◌, ◌⊎◌, inl, inr, Bool, true, false, IsTrue, List, [], ◌++◌, length, refl, sym, ◌∙◌, ap, subst, get_or, arith, append-nil, eq-eqb, zero, suc, if◌then◌else◌}
+use Rattle.std.specs.Prelude.{Option, Some, None, slice_get, ◌==◌, ◌||◌}
 use Rattle.std.specs.Option.{option_and_then, option_map_or}
 use Rattle.std.proofs.lemmas.Bool.{cases_Bool, eqb-true, false≢true}
 use Rattle.std.proofs.lemmas.List.{get_or_past}
 use Rattle.std.proofs.lemmas.List.Quantifiers.{position-Some}
 use Rattle.std.proofs.lemmas.Option.{get_or_from_slice_get, none-some, option_and_then_some, same_Some, slice_get_cases, slice_get_within}
-use Rattle.block_library.specs.Blocks.{Lists, alone, block_of, inputs, joined}
-use Rattle.block_library.specs.Memory.{gives, kept_of, lists}
+use Rattle.block_library.specs.Blocks.{Lists, block_of, inputs}
+use Rattle.block_library.specs.Memory.{gives, lists}
 use Rattle.block_library.specs.declared.kind.BlockKind.{BlockKind}
 use Rattle.block_library.proofs.Laws.{history_goes_on}
 use Rattle.chdr_packets.specs.declared.packet.Packet.{Packet}
@@ -22,20 +22,20 @@ use Rattle.net_machine.specs.declared.plan.BlockPlan.{BlockPlan}
 use Rattle.net_machine.specs.declared.plan.RunPlan.{RunPlan}
 use Rattle.net_machine.specs.Blocks.{kept_at}
 use Rattle.net_machine.specs.CanBegin.{from_of, output_at, stands_at}
-use Rattle.net_machine.specs.Effects.{after, feeds, feeds_from, gives_out, on_stream}
+use Rattle.net_machine.specs.Effects.{after, feeds_from, gives_out, on_stream}
 use Rattle.net_machine.specs.Moves.{Happens}
 use Rattle.net_machine.specs.Nodes.{is_endpoint, is_host, planned}
 use Rattle.net_machine.specs.Plain.{given_at, is_second, numbered_from}
 use Rattle.net_machine.specs.Plans.{block_at, is_from, is_rx, is_tx, no_epid, no_stream, plan_at, producer_of, stream_from, stream_into, stream_out_of}
-use Rattle.net_machine.specs.State.{State, Stream, idle, stream_at}
+use Rattle.net_machine.specs.State.{State, stream_at}
 use Rattle.net_machine.specs.Streams.{taken_to}
 use Rattle.net_machine.proofs.Laws.{shape_stays}
 use Rattle.net_flows.specs.Flows.{IsSteady}
 use Rattle.net_flows.specs.Lasting.{IsSound}
 use Rattle.net_lawful.specs.Made.{HasMade, HaveMade}
 use Rattle.net_lawful.specs.Messages.{FitsTree}
-use Rattle.net_lawful.proofs.Feeding.{IsFed, added, added-all, added-none, fed-state, given-joined, given_for, grown, inputs-few, lists-joined, made-of, no-tx, outputs-few}
-use Rattle.net_lawful.proofs.Making.{IsMade, fed_by, made-inputs, made-on, made_by, takens}
+use Rattle.net_lawful.proofs.Feeding.{IsFed, added-all, added-none, fed-state, given-joined, given_for, grown, inputs-few, lists-joined, made-of, no-tx, outputs-few}
+use Rattle.net_lawful.proofs.Making.{fed_by, made-inputs, made-on, made_by, takens}
 use Rattle.net_lawful.proofs.Planned.{HasOutput, begins-there, ends-there, has-output, held, input-within, kinds-fit, once, output-within, producer-is}
 
 -- ---- the EPID at which a block stands isn't 0
@@ -49,7 +49,7 @@ epid-positive (Endpoint own bank) epid fits is = subst (λ (e : Epid). 0 < e.0) 
 named-positive : (tree : Plan) → IsTree tree → FitsPlan tree → (x : ℕ) (epid : Epid) → node_with tree.nodes epid ≡ Some x → 0 < epid.0
 named-positive tree is fits x epid found =
     option_and_then_some epid_of (slice_get tree.nodes x) epid ((epids_name_nodes tree is x epid).0 found) (λ node at named.
-        epid-positive node epid (subst FitsNode (get_or_from_slice_get tree.nodes x node node at) (fits.nodes x node (slice_get_within tree.nodes x node at))) named)
+    epid-positive node epid (subst FitsNode (get_or_from_slice_get tree.nodes x node node at) (fits.nodes x node (slice_get_within tree.nodes x node at))) named)
 
 pub stands-positive : (tree : Plan) → IsTree tree → FitsPlan tree → (kind : BlockKind) (epid : Epid) → IsTrue (stands_at tree kind epid) → 0 < epid.0
 stands-positive tree is fits kind epid stands = by_node (node_with tree.nodes epid) refl stands
@@ -194,7 +194,7 @@ module _ (w : State) (b i s : ℕ) (p : Packet) (steady : IsSteady w) (fits : Fi
       let ready : (stream_at v t).ready ≡ old = fed.ready t ∙ (λ k. (old ++ first k) ++ second k) ∙ append-nil (old ++ []) ∙ append-nil old in
       made-on w v t plan
       (made-inputs w.plan (takens v) (takens w) t (λ d k u by_d comes. fed.others u (λ same.
-          apart (same_Some c d (sym by ∙ by_d) ∙ (once w.tree w.plan steady.plan d b k i s (comes ∙ ap (λ (n : ℕ). Some n) same) into).0))))
+      apart (same_Some c d (sym by ∙ by_d) ∙ (once w.tree w.plan steady.plan d b k i s (comes ∙ ap (λ (n : ℕ). Some n) same) into).0))))
       ((λ k. fed.sent t k ++ numbered_from (plan_at w.plan t) (length (fed.sent t k)) (ready k)) ∙ made t there)
 
   fed-made : (t : ℕ) → t < length w.streams → v.plan ≡ w.plan → HasMade v t

@@ -1,13 +1,12 @@
 -- As long as no management packet is asked, tables stay and lead.
-use Rattle.std.proofs.Common.{◌≡◌, ℕ, ◌<◌, Bool, true, false, IsTrue, List, [], ◌∷◌, length, refl, sym, ◌∙◌, ap, subst, arith, if◌then◌else◌}
-use Rattle.std.specs.Prelude.{Option, Some, None, nat_lt, ◌==◌}
+use Rattle.std.proofs.Common.{◌≡◌, ℕ, ◌<◌, Bool, true, false, IsTrue, List, length, refl, sym, ◌∙◌, ap, subst, arith, if◌then◌else◌}
+use Rattle.std.specs.Prelude.{Some, nat_lt, ◌==◌}
 use Rattle.std.specs.List.{AllByRecursion}
-use Rattle.std.proofs.lemmas.Bool.{cases_Bool, eqb-true, false≢true}
+use Rattle.std.proofs.lemmas.Bool.{eqb-true, false≢true}
 use Rattle.block_library.specs.Blocks.{HoldsSamples}
 use Rattle.chdr_packets.specs.declared.packet.Body.{Body}
 use Rattle.chdr_packets.specs.declared.packet.Body.TheVariants as body
 use Rattle.chdr_packets.specs.declared.packet.Packet.{Packet}
-use Rattle.chdr_words.specs.declared.epid.Epid.{Epid}
 use Rattle.net_topology.specs.Leads.{Exits, Leads}
 use Rattle.net_topology.specs.Links.{link_at}
 use Rattle.net_topology.specs.declared.plan.Plan.{Plan}
@@ -22,11 +21,11 @@ use Rattle.net_machine.specs.Nodes.{exits_of}
 use Rattle.net_machine.specs.Passing.{Ends, goes_on, passing, passing_by, walked_by}
 use Rattle.net_machine.specs.Plans.{plan_at, stream_from, stream_to}
 use Rattle.net_machine.specs.Queues.{link_of_queue}
-use Rattle.net_machine.specs.State.{Entry, Node, State, node_at, node_in, queue_at, stream_at}
+use Rattle.net_machine.specs.State.{Entry, Node, State, node_at, node_in, stream_at}
 use Rattle.net_machine.specs.Streams.{entering}
 use Rattle.net_machine.proofs.Laws.{shape_stays}
 use Rattle.net_ways.specs.Hops.{GoesAhead, GoesByTable}
-use Rattle.net_ways.specs.Standing.{AreReady, HasWays, HaveWays}
+use Rattle.net_ways.specs.Standing.{AreReady, HaveWays}
 use Rattle.net_ways.proofs.Laws.{places_stay}
 use Rattle.net_flows.specs.Flows.{IsSteady}
 use Rattle.net_flows.specs.Forms.{item_on}

@@ -13,3 +13,5 @@ mod Stilling
 mod Unseen
 mod Peaks
 mod Staying
+mod Beginning
+pub mod Laws

@@ -1,10 +1,9 @@
 -- What was sent and is ready stays what was made, as packets are sent and taken.
-use Rattle.std.proofs.Common.{◌≡◌, ◌≢◌, ℕ, ◌+◌, ◌%◌, ◌^◌, ◌≤◌, ◌<◌, ◌⊎◌, inl, inr, Bool, true, false, IsTrue, List, [], ◌∷◌, ◌++◌, length, take, refl, sym, ◌∙◌, ap, subst, get_or, set, arith, append_assoc, append-nil, zero, suc, if◌then◌else◌}
-use Rattle.std.specs.Prelude.{Option, Some, None, slice_get, ◌==◌, ◌&&◌}
+use Rattle.std.proofs.Common.{◌≡◌, ℕ, ◌+◌, ◌%◌, ◌^◌, ◌≤◌, ◌<◌, ◌⊎◌, inl, inr, Bool, true, false, IsTrue, List, [], ◌∷◌, ◌++◌, length, refl, sym, ◌∙◌, ap, subst, arith, append_assoc}
+use Rattle.std.specs.Prelude.{Option, Some, None, ◌&&◌}
 use Rattle.std.specs.Option.{option_map_or}
 use Rattle.std.proofs.lemmas.Bool.{cases_lt, false≢true}
 use Rattle.std.proofs.lemmas.List.{get_or-set_other, get_or_past, length-append, length-map, length-take}
-use Rattle.std.proofs.lemmas.Option.{none-some, same_Some}
 use Rattle.rf_base.proofs.Places.{one-set}
 use Rattle.block_library.specs.Blocks.{outputs}
 use Rattle.block_library.specs.Memory.{lists}
@@ -12,11 +11,11 @@ use Rattle.block_library.specs.declared.kind.BlockKind.{BlockKind}
 use Rattle.block_library.specs.declared.kind.BlockKind.TheVariants.{Tx, Rx, Fifo, Split, Keep, Repeat, Replay, Switch, Sink}
 use Rattle.chdr_packets.specs.declared.packet.Packet.{Packet}
 use Rattle.stream_endpoint.specs.declared.fault.Fault.TheVariants as fault
-use Rattle.stream_endpoint.specs.Sender.{Sender, next_number}
-use Rattle.stream_laws.specs.Machine.{Core, Load, number_at}
+use Rattle.stream_endpoint.specs.Sender.{next_number}
+use Rattle.stream_laws.specs.Machine.{Core, number_at}
 use Rattle.stream_laws.proofs.Laws.{numbers_go_on, taken_of_given}
 use Rattle.net_machine.specs.declared.event.Event.{Event}
-use Rattle.net_machine.specs.declared.event.Event.TheVariants.{Enter, Hop, Seen, Feed, Report, Command, Lose, Reply, Ask}
+use Rattle.net_machine.specs.declared.event.Event.TheVariants.{Enter, Seen}
 use Rattle.net_machine.specs.declared.plan.RunPlan.{RunPlan}
 use Rattle.net_machine.specs.declared.plan.StreamPlan.{StreamPlan}
 use Rattle.net_machine.specs.Conditions.{can_see, enabled, ends_at_rx, may}
@@ -32,11 +31,11 @@ use Rattle.net_machine.specs.State.{Sample, State, Stream, idle, stream_at}
 use Rattle.net_machine.specs.Streams.{entering, numbered, sends_first, taken_of, taken_to}
 use Rattle.net_machine.proofs.Laws.{shape_stays}
 use Rattle.net_streams.specs.Shows.{load_of, terms_of}
-use Rattle.net_flows.specs.Flows.{IsFlow, IsSteady}
+use Rattle.net_flows.specs.Flows.{IsSteady}
 use Rattle.net_lawful.specs.Made.{HasMade, HaveMade}
 use Rattle.net_lawful.proofs.Messages.{ready-there}
-use Rattle.net_lawful.proofs.Planned.{HasOutput, has-output, output-within, planned}
-use Rattle.net_lawful.proofs.Sides.{KeepsSides, MakesNone, same-taken, sides-stay}
+use Rattle.net_lawful.proofs.Planned.{has-output, output-within, planned}
+use Rattle.net_lawful.proofs.Sides.{MakesNone, same-taken, sides-stay}
 
 -- ---- numbers
 
@@ -163,7 +162,7 @@ enter-made w s (p ∷ rest) is steady made plan t lt =
     ∙ ap (λ packets. old.sent ++ numbered_from st (length old.sent) packets) (sym is) ∙ made s there in
     made-on w (enters s (p ∷ rest) w) t plan
     (made-inputs w.plan (takens (enters s (p ∷ rest) w)) (takens w) t (λ b i u by into.
-        entered w s p rest (λ r new. taken_of new ≡ takens w r) (λ r. refl) refl u))
+    entered w s p rest (λ r new. taken_of new ≡ takens w r) (λ r. refl) refl u))
     (entered w s p rest (λ r new. r < length w.streams → IsMade w r new) (λ r within. made r within) (λ within. sent) t lt)
 
 pub made-entered : (w : State) (s : ℕ) → IsSteady w → HaveMade w → HaveMade (after w (Enter s))
@@ -205,5 +204,5 @@ made-seen w s n steady may_it made t lt =
     false≢true (sym none ∙ sym (plans.takers b i u into) ∙ ap (ends_at_rx w.plan) same ∙ at-rx) in
     made-on w (on_stream s (taken_to n) w) t refl
     (made-inputs w.plan (takens (on_stream s (taken_to n) w)) (takens w) t (λ b i u by into.
-        ap taken_of (get_or-set_other w.streams s u (taken_to n (stream_at w s)) idle (apart b i u by into))))
+    ap taken_of (get_or-set_other w.streams s u (taken_to n (stream_at w s)) idle (apart b i u by into))))
     (one-set {B = ℕ} (λ r st none. r < length w.streams → IsMade w r st) w.streams [] idle 0 (taken_to n (stream_at w s)) s made (λ within. made s within) t there)

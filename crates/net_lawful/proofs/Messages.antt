@@ -1,6 +1,6 @@
 -- Messages stay fit in queues, and commands and statuses spell what their tags tell.
 use Rattle.std.proofs.Common.{◌≡◌, ℕ, ◌≤◌, ◌<◌, ◌⊎◌, inl, inr, Bool, true, false, IsTrue, List, [], ◌∷◌, length, refl, sym, ◌∙◌, ap, subst}
-use Rattle.std.specs.Prelude.{Option, Some, None, nat_lt, ◌==◌, ◌&&◌}
+use Rattle.std.specs.Prelude.{◌&&◌}
 use Rattle.std.specs.List.{All, AllByRecursion}
 use Rattle.std.proofs.lemmas.Bool.{cases_lt, false≢true}
 use Rattle.std.proofs.lemmas.List.{get_or_past}
@@ -11,20 +11,18 @@ use Rattle.chdr_packets.specs.declared.packet.Body.TheVariants as body
 use Rattle.chdr_packets.specs.declared.packet.Packet.{Packet}
 use Rattle.chdr_words.specs.declared.command.CmdOp.{CmdOp}
 use Rattle.chdr_words.specs.declared.command.CmdOp.TheVariants.{Init, Ping, Resync, Other}
-use Rattle.chdr_words.specs.declared.management.Management.{Management}
 use Rattle.stream_endpoint.specs.Receiver.{Receiver}
 use Rattle.stream_endpoint.proofs.Laws.{command_means, status_spells}
 use Rattle.stream_laws.specs.Machine.{Core}
 use Rattle.stream_laws.proofs.Laws.{held_within}
 use Rattle.net_machine.specs.declared.event.Event.{Event}
 use Rattle.net_machine.specs.declared.event.Event.TheVariants.{Enter, Hop, Seen, Feed, Report, Command, Lose, Reply, Ask}
-use Rattle.net_machine.specs.declared.plan.RunPlan.{RunPlan}
 use Rattle.net_machine.specs.Conditions.{can_order, enabled, has_place_from, may}
 use Rattle.net_machine.specs.Effects.{after}
 use Rattle.net_machine.specs.Front.{StreamFront, front, front_at, stream_front}
 use Rattle.net_machine.specs.Plans.{plan_at}
 use Rattle.net_machine.specs.Queues.{back_vc, forward_vc}
-use Rattle.net_machine.specs.State.{Entry, Message, Sample, State, Stream, Tag, idle, node_at, queue_at, stream_at}
+use Rattle.net_machine.specs.State.{Message, Sample, State, Stream, Tag, idle, node_at, stream_at}
 use Rattle.net_machine.specs.Streams.{receiving_of, sending_of}
 use Rattle.net_machine.proofs.Laws.{fronts}
 use Rattle.net_present.specs.Fits.{Spells}
@@ -32,7 +30,7 @@ use Rattle.net_ways.specs.Standing.{IsMessage, IsMessageOn}
 use Rattle.net_streams.specs.Shows.{terms_of}
 use Rattle.net_flows.specs.Flows.{IsSteady}
 use Rattle.net_flows.specs.Forms.{IsPacketOn, item_on}
-use Rattle.net_lawful.specs.Messages.{AreEntriesFit, AreFit, AreNodesFit, AreSpelled, FitsTree, IsAnswerFit, IsFit, IsManagementFit}
+use Rattle.net_lawful.specs.Messages.{AreEntriesFit, AreFit, AreNodesFit, AreSpelled, FitsTree, IsAnswerFit, IsFit}
 use Rattle.net_lawful.proofs.Entering.{Puts, entries-stay}
 use Rattle.net_lawful.proofs.Nodes.{link-there, performed-at}
 

@@ -1,7 +1,7 @@
 -- Nodes stay fit: their tables name ports, and what waits at them can be performed, operated and spelled.
-use Rattle.std.proofs.Common.{◌≡◌, ℕ, ◌+◌, ◌*◌, ◌^◌, ◌<◌, ◌≤◌, ◌⊎◌, inl, inr, Bool, true, false, List, [], ◌∷◌, ◌++◌, length, drop, map, refl, sym, ◌∙◌, ap, subst, get_or, set, arith, zero, suc, if◌then◌else◌}
-use Rattle.std.specs.Prelude.{Option, Some, None, IfSome, slice_get, nat_lt, ◌==◌}
-use Rattle.std.specs.List.{AllByRecursion, range_with_len}
+use Rattle.std.proofs.Common.{◌≡◌, ℕ, ◌+◌, ◌*◌, ◌<◌, ◌≤◌, ◌⊎◌, inl, inr, Bool, true, false, List, [], ◌∷◌, ◌++◌, length, refl, sym, ◌∙◌, subst, set, arith, if◌then◌else◌}
+use Rattle.std.specs.Prelude.{Option, Some, None, slice_get, nat_lt, ◌==◌}
+use Rattle.std.specs.List.{AllByRecursion}
 use Rattle.std.specs.Option.{option_map_or}
 use Rattle.std.proofs.lemmas.Bool.{cases_lt}
 use Rattle.std.proofs.lemmas.Bool.Decides.{nat_tests}
@@ -9,18 +9,14 @@ use Rattle.std.proofs.lemmas.List.{get_or_past}
 use Rattle.rf_base.proofs.Places.{one-set}
 use Rattle.block_library.specs.Memory.{gives}
 use Rattle.block_registers.specs.Operations.{answer}
-use Rattle.chdr_packets.specs.Fits.{FitsPacket}
 use Rattle.chdr_packets.specs.declared.packet.Body.{Body}
 use Rattle.chdr_packets.specs.declared.packet.Body.TheVariants as body
 use Rattle.chdr_packets.specs.declared.packet.Packet.{Packet}
-use Rattle.chdr_words.specs.declared.control.Control.{Control}
-use Rattle.chdr_words.specs.declared.epid.Epid.{Epid}
 use Rattle.chdr_words.specs.declared.management.Management.{Management}
 use Rattle.net_nodes.specs.Budget.{performed_packet}
 use Rattle.net_nodes.specs.Table.{HasEntries}
 use Rattle.net_nodes.specs.declared.site.Done.{Done}
 use Rattle.net_nodes.specs.declared.site.Done.TheVariants.{Forward, Return, NoSuchPort, Dead}
-use Rattle.net_nodes.specs.declared.site.Site.{Site}
 use Rattle.net_nodes.specs.declared.table.Place.{Place}
 use Rattle.net_nodes.proofs.Laws.{entries_are_ports}
 use Rattle.net_topology.specs.Leads.{sent_on}
@@ -32,7 +28,7 @@ use Rattle.net_machine.specs.declared.event.Event.{Event}
 use Rattle.net_machine.specs.declared.event.Event.TheVariants.{Enter, Hop, Seen, Feed, Report, Command, Lose, Reply, Ask}
 use Rattle.net_machine.specs.declared.plan.BlockPlan.{BlockPlan}
 use Rattle.net_machine.specs.Blocks.{kept_at}
-use Rattle.net_machine.specs.Effects.{after, answers_host, arrives, asks_first, enters, enters_over, feeds, feeds_from, gives_out, hears_status, hops, leaves, loses_front, on_any_stream, on_node, on_stream, operates, orders, passes, pends, replies_first, reports, stream_of}
+use Rattle.net_machine.specs.Effects.{after, answers_host, arrives, asks_first, enters, enters_over, feeds, feeds_from, gives_out, hears_status, hops, leaves, loses_front, on_any_stream, on_node, on_stream, operates, passes, pends, replies_first, stream_of}
 use Rattle.net_machine.specs.Faults.{is_named}
 use Rattle.net_machine.specs.Nodes.{exits_of, is_host_at, is_switch, own_epid, place_at, route_from, site_at}
 use Rattle.net_machine.specs.Passing.{Outcome, Passes, Returns, Arrives, Ends, Passing, by_table, goes_on, leaves_by, message, passing, passing_by, returned, walked_by, walking, with_table}
@@ -42,9 +38,9 @@ use Rattle.net_machine.specs.State.{Entry, Message, Node, State, Stream, Tag, bl
 use Rattle.net_machine.specs.Streams.{counts_in, gets, gets_order, loses, readies, taken_to}
 use Rattle.net_machine.proofs.Laws.{queues}
 use Rattle.net_ways.specs.Ways.{HasQueues}
-use Rattle.net_lawful.specs.Messages.{AreFit, AreEntriesFit, AreNodesFit, FitsTree, IsAnswerFit, IsControlFit, IsFit, IsManagementFit, IsNodeFit}
-use Rattle.net_lawful.proofs.Entering.{more, walked_on}
-use Rattle.net_lawful.proofs.Fitting.{IsPerformedFit, IsSite, answer-fit, performed-fit, site-fits}
+use Rattle.net_lawful.specs.Messages.{AreFit, AreEntriesFit, AreNodesFit, FitsTree, IsAnswerFit, IsFit, IsManagementFit, IsNodeFit}
+use Rattle.net_lawful.proofs.Entering.{more}
+use Rattle.net_lawful.proofs.Fitting.{IsPerformedFit, answer-fit, performed-fit, site-fits}
 
 -- ---- nodes change
 

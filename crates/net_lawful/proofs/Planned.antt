@@ -1,20 +1,18 @@
 -- Which streams begin and end at which blocks of a plan that can run.
-use Rattle.std.proofs.Common.{◌≡◌, ◌≢◌, ℕ, ◌≤◌, ◌<◌, ◌⊎◌, inl, inr, Bool, true, false, IsTrue, List, [], ◌∷◌, length, refl, sym, ◌∙◌, ap, subst, get_or, arith, zero, suc, if◌then◌else◌}
-use Rattle.std.specs.Prelude.{Option, Some, None, IsSome, position, slice_get, slice_index_or, is_some, ◌==◌, ◌||◌}
+use Rattle.std.proofs.Common.{◌≡◌, ℕ, ◌≤◌, ◌<◌, ◌⊎◌, inl, inr, Bool, true, false, List, [], ◌∷◌, length, refl, sym, ◌∙◌, ap, subst, zero, suc}
+use Rattle.std.specs.Prelude.{Option, Some, None, IsSome, slice_get, ◌==◌, ◌||◌}
 use Rattle.std.specs.List.{list_any}
-use Rattle.std.specs.Option.{option_and_then, option_map_or}
+use Rattle.std.specs.Option.{option_map_or}
 use Rattle.std.proofs.lemmas.Bool.{cases_lt, eqb-true, false≢true}
 use Rattle.std.proofs.lemmas.List.{get_or_past}
 use Rattle.std.proofs.lemmas.List.Quantifiers.{position-Some}
-use Rattle.std.proofs.lemmas.Option.{none-some, option_and_then_some, same_Some, slice_get_within}
+use Rattle.std.proofs.lemmas.Option.{none-some, option_and_then_some, slice_get_within}
 use Rattle.block_library.specs.Blocks.{FitsKind, inputs, outputs}
-use Rattle.block_library.specs.declared.kind.BlockKind.{BlockKind}
 use Rattle.chdr_words.specs.declared.epid.Epid.{Epid}
 use Rattle.net_topology.specs.declared.plan.Plan.{Plan}
 use Rattle.net_machine.specs.declared.plan.BlockPlan.{BlockPlan}
 use Rattle.net_machine.specs.declared.plan.RunPlan.{RunPlan}
-use Rattle.net_machine.specs.declared.plan.StreamPlan.{StreamPlan}
-use Rattle.net_machine.specs.CanBegin.{FitsBlock, from_of, input_at, output_at, to_of}
+use Rattle.net_machine.specs.CanBegin.{from_of, input_at, output_at, to_of}
 use Rattle.net_machine.specs.Conditions.{ends_at_rx}
 use Rattle.net_machine.specs.Plans.{block_at, block_in, block_out, consumer_of, is_among, is_from, is_rx, is_to, no_block, no_stream, plan_at, producer_of, stream_from, stream_into, stream_out_of, stream_to}
 use Rattle.net_flows.specs.Lasting.{IsSound}

@@ -1,5 +1,5 @@
 -- Each move leaves a network lawful.
-use Rattle.std.proofs.Common.{◌≡◌, ℕ, ◌<◌, ◌≤◌, Bool, true, false, IsTrue, List, [], ◌∷◌, ◌++◌, length, drop, refl, sym, ◌∙◌, ap, subst, set, arith}
+use Rattle.std.proofs.Common.{◌≡◌, ℕ, ◌<◌, Bool, true, false, IsTrue, List, [], ◌∷◌, ◌++◌, drop, refl, sym, ◌∙◌, subst, set}
 use Rattle.std.specs.Prelude.{Option, Some, None, slice_get, unwrap_or, ◌||◌}
 use Rattle.std.specs.List.{AllByRecursion}
 use Rattle.std.specs.Option.{option_and_then, option_map_or}
@@ -22,19 +22,19 @@ use Rattle.net_machine.specs.declared.event.Event.TheVariants.{Enter, Hop, Seen,
 use Rattle.net_machine.specs.Conditions.{enabled}
 use Rattle.net_machine.specs.Effects.{after}
 use Rattle.net_machine.specs.Faults.{renamed}
-use Rattle.net_machine.specs.Moves.{Answered, Asks, CanAsk, Happens, IsAllowed, IsAtRest, IsLegal, IsRequest, Loads, Marks, Move, after_all, after_move, answered, asks, is_management, marked}
+use Rattle.net_machine.specs.Moves.{Answered, Asks, CanAsk, Happens, IsAtRest, IsLegal, IsRequest, Loads, Marks, after_all, after_move, answered, asks, is_management}
 use Rattle.net_machine.specs.Nodes.{is_host, is_host_at, own_epid}
 use Rattle.net_machine.specs.State.{Node, State, blank, node_at, node_in}
 use Rattle.net_machine.specs.Plans.{no_epid}
 use Rattle.net_machine.proofs.Laws.{shape_stays}
 use Rattle.net_ways.specs.Hops.{GoesByTable}
-use Rattle.net_ways.specs.Standing.{AreMessages, HaveWays}
+use Rattle.net_ways.specs.Standing.{AreMessages}
 use Rattle.net_ways.proofs.Laws.{messages_stay}
 use Rattle.net_flows.specs.Flows.{IsSteady, SteadyStays, UnseenFlows}
 use Rattle.net_lawful.specs.Lawful.{Lawful}
 use Rattle.net_lawful.specs.Laws.{AllAreLawful, LawfulStays}
 use Rattle.net_lawful.specs.Made.{HaveMade}
-use Rattle.net_lawful.specs.Messages.{AreFit, AreNodesFit, FitsTree, IsFit, IsNodeFit}
+use Rattle.net_lawful.specs.Messages.{AreFit, FitsTree, IsFit, IsNodeFit}
 use Rattle.net_lawful.specs.Walking.{AreLed, AreStilled, KeepsTables}
 use Rattle.net_lawful.proofs.Calm.{walked-stays}
 use Rattle.net_lawful.proofs.Entering.{more}
@@ -95,7 +95,7 @@ request-fit w x p (body.Management m) can is positive =
 -- a host's EPID isn't 0
 host-positive : (tree : Plan) (x : ℕ) → FitsTree tree → is_host_at tree x ≡ true → 0 < (own_epid tree x).0
 host-positive tree x fits is = by_node (slice_get tree.nodes x) (λ node at.
-        subst FitsNode (get_or_from_slice_get tree.nodes x node node at) (fits.plan.nodes x node (slice_get_within tree.nodes x node at))) is
+    subst FitsNode (get_or_from_slice_get tree.nodes x node node at) (fits.plan.nodes x node (slice_get_within tree.nodes x node at))) is
   where
     by_sort : (node : NodePlan) → FitsNode node → is_host node ≡ true → 0 < (unwrap_or (epid_of node) no_epid).0
     by_sort (Crossbar ports) fit is = absurd (false≢true is)
@@ -177,12 +177,12 @@ asks-lawful unseen w x p lawful can =
       answers = here.answers;
     }))
     (λ is.
-        let both = neither w.walked (is_management p.body) is in
-        let led = lawful.led both.0 in
-        led-outside w (set w.nodes x n) w.banks w.faults w.requests w.answers (w.walked || is_management p.body)
-        (node-set (λ y node. node.table ≡ (node_at w y).table) w x n (λ y. refl) refl)
-        (node-set (λ y node. (d : ℕ) → link_at w.tree.links y 0 ≡ Some d → AllByRecursion KeepsTables node.requests) w x n led.asked
-        (λ d at. more KeepsTables (node_at w x).requests p (led.asked x d at) (table-keeps p p.body both.1))) led)
+    let both = neither w.walked (is_management p.body) is in
+    let led = lawful.led both.0 in
+    led-outside w (set w.nodes x n) w.banks w.faults w.requests w.answers (w.walked || is_management p.body)
+    (node-set (λ y node. node.table ≡ (node_at w y).table) w x n (λ y. refl) refl)
+    (node-set (λ y node. (d : ℕ) → link_at w.tree.links y 0 ≡ Some d → AllByRecursion KeepsTables node.requests) w x n led.asked
+    (λ d at. more KeepsTables (node_at w x).requests p (led.asked x d at) (table-keeps p p.body both.1))) led)
     (λ is. by_walked w.walked refl is)
   where
     by_walked : (b : Bool) → w.walked ≡ b → (b || is_management p.body) ≡ true → AreStilled w
@@ -201,10 +201,10 @@ answered-lawful unseen w x lawful =
     (messages_stay w (Answered x) tt lawful.steady.messages)
     (node-set (IsNodeFit w.tree) w x n lawful.nodes (record { table = here.table; requests = here.requests; pending = here.pending; answers = rest-fit (node_at w x).answers here.answers }))
     (λ is.
-        let led = lawful.led is in
-        led-outside w (set w.nodes x n) w.banks w.faults w.requests w.answers w.walked
-        (node-set (λ y node. node.table ≡ (node_at w y).table) w x n (λ y. refl) refl)
-        (node-set (λ y node. (d : ℕ) → link_at w.tree.links y 0 ≡ Some d → AllByRecursion KeepsTables node.requests) w x n led.asked (led.asked x)) led)
+    let led = lawful.led is in
+    led-outside w (set w.nodes x n) w.banks w.faults w.requests w.answers w.walked
+    (node-set (λ y node. node.table ≡ (node_at w y).table) w x n (λ y. refl) refl)
+    (node-set (λ y node. (d : ℕ) → link_at w.tree.links y 0 ≡ Some d → AllByRecursion KeepsTables node.requests) w x n led.asked (led.asked x)) led)
     lawful.stilled
 
 same-nodes : UnseenFlows → (w : State) (banks : List (Option Registers)) (faults : List Fault) (requests answers : ℕ) → Lawful w →

@@ -1,33 +1,31 @@
 -- Once a management packet is asked no stream does anything, and only messages move.
-use Rattle.std.proofs.Common.{◌≡◌, ℕ, ◌+◌, ◌≤◌, ◌<◌, ◌⊎◌, inl, inr, Bool, true, false, IsTrue, List, [], ◌∷◌, ◌++◌, length, map, refl, sym, ◌∙◌, ap, subst, get_or, arith, zero, suc, if◌then◌else◌}
-use Rattle.std.specs.Prelude.{Option, Some, None, nat_lt, not, ◌==◌, ◌&&◌, ◌||◌}
+use Rattle.std.proofs.Common.{◌≡◌, ℕ, ◌≤◌, ◌<◌, ◌⊎◌, inl, inr, Bool, true, false, List, [], ◌∷◌, length, map, refl, sym, ◌∙◌, ap, subst, get_or, zero, suc, if◌then◌else◌}
+use Rattle.std.specs.Prelude.{Some, nat_lt, not, ◌==◌, ◌&&◌, ◌||◌}
 use Rattle.std.specs.List.{AllByRecursion, list_all}
 use Rattle.std.specs.Option.{option_map_or}
 use Rattle.std.proofs.lemmas.Bool.{cases_lt, false≢true, lt-ltb}
 use Rattle.std.proofs.lemmas.List.{get_or_past}
 use Rattle.chdr_packets.specs.declared.packet.Body.{Body}
 use Rattle.chdr_packets.specs.declared.packet.Body.TheVariants as body
-use Rattle.chdr_packets.specs.declared.packet.Packet.{Packet}
 use Rattle.chdr_words.specs.declared.command.CmdOp.{CmdOp}
 use Rattle.chdr_words.specs.declared.command.CmdOp.TheVariants.{Init, Ping, Resync, Other}
 use Rattle.chdr_words.specs.declared.epid.Epid.{Epid}
 use Rattle.net_topology.specs.declared.plan.Plan.{Plan}
 use Rattle.stream_endpoint.specs.Counts.{is_none}
-use Rattle.net_machine.specs.declared.event.Event.{Event}
-use Rattle.net_machine.specs.declared.event.Event.TheVariants.{Enter, Hop, Seen, Feed, Report, Command, Lose, Reply, Ask}
+use Rattle.net_machine.specs.declared.event.Event.TheVariants.{Enter, Seen, Feed, Report, Command}
 use Rattle.net_machine.specs.declared.plan.RunPlan.{RunPlan}
 use Rattle.net_machine.specs.declared.plan.StreamPlan.{StreamPlan}
 use Rattle.net_machine.specs.Blocks.{drained_by, is_clear, is_closed, is_finished}
-use Rattle.net_machine.specs.Conditions.{can_feed, can_order, can_ping, can_repeat, can_see, can_send, enabled, ends_at_rx, has_place_from, is_of, is_opening, is_quiet, is_resyncing, is_stuck, may, none_under_way}
+use Rattle.net_machine.specs.Conditions.{can_feed, can_order, can_see, can_send, ends_at_rx, has_place_from, is_of, is_opening, is_resyncing, is_stuck, may, none_under_way}
 use Rattle.net_machine.specs.Front.{Front, Queued, StreamFront, front, front_at, queued, queued_at, stream_front}
 use Rattle.net_machine.specs.Moves.{AreEmpty, IsAtRest}
 use Rattle.net_machine.specs.Plans.{block_at, first_link, is_tx, plan_at, producer_of, stream_to}
 use Rattle.net_machine.specs.Queues.{back_vc, forward_vc, queue_of}
-use Rattle.net_machine.specs.State.{Entry, Node, State, Stream, Tag, idle, queue_at, stream_at}
+use Rattle.net_machine.specs.State.{Entry, Node, State, idle, queue_at}
 use Rattle.net_machine.proofs.Laws.{fronts}
 use Rattle.stream_endpoint.specs.Sender.{is_running}
 use Rattle.net_ways.specs.Standing.{IsMessage}
-use Rattle.net_ways.specs.Ways.{BeginsAt, HasQueues, IsLedTo}
+use Rattle.net_ways.specs.Ways.{HasQueues, IsLedTo}
 use Rattle.net_ways.proofs.Laws.{ways_begin}
 use Rattle.net_flows.specs.Flows.{IsSteady}
 use Rattle.net_lawful.specs.Messages.{EachEntry}

@@ -1,6 +1,6 @@
 -- Once a management packet is asked no stream sees what happens, and each stays a run.
 use Rattle.std.proofs.Common.{◌≡◌, ℕ, ◌+◌, ◌<◌, Bool, true, false, IsTrue, List, [], ◌∷◌, ◌++◌, length, refl, sym, ◌∙◌, ap, subst, get_or, if◌then◌else◌}
-use Rattle.std.specs.Prelude.{Option, Some, None, ◌&&◌}
+use Rattle.std.specs.Prelude.{Option, Some, None}
 use Rattle.std.specs.List.{AllByRecursion}
 use Rattle.std.specs.Option.{option_map_or}
 use Rattle.std.proofs.lemmas.Bool.{false≢true}
@@ -8,23 +8,19 @@ use Rattle.block_registers.specs.Registers.{Registers}
 use Rattle.chdr_packets.specs.declared.packet.Body.{Body}
 use Rattle.chdr_packets.specs.declared.packet.Body.TheVariants as body
 use Rattle.chdr_packets.specs.declared.packet.Packet.{Packet}
-use Rattle.chdr_words.specs.declared.epid.Epid.{Epid}
 use Rattle.net_topology.specs.Links.{end_of, link_at}
 use Rattle.net_topology.specs.Tree.{IsTree}
 use Rattle.net_topology.specs.declared.plan.Plan.{Plan}
 use Rattle.stream_endpoint.specs.declared.fault.Fault.{Fault}
-use Rattle.stream_endpoint.specs.declared.fault.Fault.TheVariants as fault
 use Rattle.net_machine.specs.declared.event.Event.{Event}
 use Rattle.net_machine.specs.declared.event.Event.TheVariants.{Enter, Hop, Seen, Feed, Report, Command, Lose, Reply, Ask}
 use Rattle.net_machine.specs.declared.plan.RunPlan.{RunPlan}
 use Rattle.net_machine.specs.declared.plan.StreamPlan.{StreamPlan}
 use Rattle.net_machine.specs.Conditions.{can_order, can_send, enabled, has_place_from, may}
-use Rattle.net_machine.specs.Effects.{after, answers_host, arrives, asks_first, enters_over, hops, leaves, loses_front, on_any_stream, on_node, on_stream, operates, passes, pends, replies_first, stream_of}
-use Rattle.net_machine.specs.Faults.{is_named}
+use Rattle.net_machine.specs.Effects.{after, answers_host, arrives, asks_first, enters_over, hops, leaves, loses_front, on_any_stream, on_node, operates, passes, pends, replies_first, stream_of}
 use Rattle.net_machine.specs.Front.{front, front_at}
-use Rattle.net_machine.specs.Laws.{KeepsShape}
 use Rattle.net_machine.specs.Moves.{Happens}
-use Rattle.net_machine.specs.Nodes.{is_host_at, is_switch, own_epid, route_from}
+use Rattle.net_machine.specs.Nodes.{is_host_at, route_from}
 use Rattle.net_machine.specs.Passing.{Outcome, Passes, Returns, Arrives, Ends, passing}
 use Rattle.net_machine.specs.Plans.{plan_at}
 use Rattle.net_machine.specs.Queues.{back_vc, channel_of, forward_vc, link_of_queue, queue_count, queue_of}
@@ -35,10 +31,9 @@ use Rattle.net_ways.specs.Hops.{IsUnseen}
 use Rattle.net_ways.specs.Standing.{AreMessages, IsMessage}
 use Rattle.net_ways.specs.Unseen.{IsElsewhere, IsForeign}
 use Rattle.net_ways.proofs.Laws.{hops_unseen, joins_unseen, losses_unseen, messages_stay, nodes_unseen, unseen_twice}
-use Rattle.net_flows.specs.Flows.{IsFlow, IsSteady, UnseenFlows}
-use Rattle.net_flows.specs.Forms.{AreTelling, HasForm, Tells}
+use Rattle.net_flows.specs.Flows.{IsSteady, UnseenFlows}
+use Rattle.net_flows.specs.Forms.{HasForm, Tells}
 use Rattle.net_flows.specs.Lasting.{IsSound}
-use Rattle.net_lawful.specs.Messages.{EachEntry}
 use Rattle.net_lawful.specs.Walking.{AreStilled, IsNoStreams}
 use Rattle.net_lawful.proofs.Entering.{Puts, entries-stay}
 use Rattle.net_lawful.proofs.Messages.{answer-is, first-true, request-is}

@@ -2,3 +2,7 @@
 //!
 //! Rule: docs/machine.md, "What always holds".
 #![tactic(auto)]
+
+mod law;
+
+pub use law::{moves_leave_networks_lawful, networks_begin_lawful};

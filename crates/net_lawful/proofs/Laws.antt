@@ -1,0 +1,17 @@
+-- The laws of specs/, with their proofs, for the proofs of other crates.
+use Rattle.net_flows.proofs.Laws.{begun_is_steady, steady_stays, unseen_flows}
+use Rattle.net_lawful.specs.Laws as law
+use Rattle.net_lawful.proofs.Beginning.{begun-lawful, built-lawful}
+use Rattle.net_lawful.proofs.Staying.{all-lawful, lawful-stays}
+
+pub built_is_lawful : law.BuiltIsLawful
+built_is_lawful = built-lawful
+
+pub begun_is_lawful : law.BegunIsLawful
+begun_is_lawful = begun-lawful begun_is_steady
+
+pub lawful_stays : law.LawfulStays
+lawful_stays = lawful-stays steady_stays unseen_flows
+
+pub all_are_lawful : law.AllAreLawful
+all_are_lawful = all-lawful steady_stays unseen_flows
