@@ -1,20 +1,26 @@
 -- Which streams begin and end at which blocks of a plan that can run.
-use Rattle.std.proofs.Common.{◌≡◌, ℕ, ◌≤◌, ◌<◌, ◌⊎◌, inl, inr, Bool, true, false, List, [], ◌∷◌, length, refl, sym, ◌∙◌, ap, subst, zero, suc}
+use Rattle.std.proofs.Common.{◌≡◌, ℕ, ◌≤◌, ◌<◌, ◌⊎◌, inl, inr, Bool, true, false, IsTrue, List, [], ◌∷◌, length, refl, sym, ◌∙◌, ap, subst, zero, suc, if◌then◌else◌}
 use Rattle.std.specs.Prelude.{Option, Some, None, IsSome, slice_get, ◌==◌, ◌||◌}
 use Rattle.std.specs.List.{list_any}
-use Rattle.std.specs.Option.{option_map_or}
+use Rattle.std.specs.Option.{option_and_then, option_map_or}
 use Rattle.std.proofs.lemmas.Bool.{cases_lt, eqb-true, false≢true}
 use Rattle.std.proofs.lemmas.List.{get_or_past}
 use Rattle.std.proofs.lemmas.List.Quantifiers.{position-Some}
 use Rattle.std.proofs.lemmas.Option.{none-some, option_and_then_some, slice_get_within}
+use Rattle.block_library.specs.declared.kind.BlockKind.{BlockKind}
+use Rattle.block_library.specs.declared.kind.BlockKind.TheVariants.{Tx, Rx, Fifo, Split, Keep, Repeat, Replay, Switch, Sink}
 use Rattle.block_library.specs.Blocks.{FitsKind, inputs, outputs}
 use Rattle.chdr_words.specs.declared.epid.Epid.{Epid}
+use Rattle.net_topology.specs.Tree.{IsTree, epid_of as node_epid, node_with}
+use Rattle.net_topology.specs.declared.plan.NodePlan.TheVariants.{Endpoint}
 use Rattle.net_topology.specs.declared.plan.Plan.{Plan}
+use Rattle.net_topology.proofs.Laws.{epids_name_nodes}
 use Rattle.net_machine.specs.declared.plan.BlockPlan.{BlockPlan}
 use Rattle.net_machine.specs.declared.plan.RunPlan.{RunPlan}
-use Rattle.net_machine.specs.CanBegin.{from_of, input_at, output_at, to_of}
+use Rattle.net_machine.specs.CanBegin.{from_of, input_at, output_at, stands_at, to_of}
 use Rattle.net_machine.specs.Conditions.{ends_at_rx}
-use Rattle.net_machine.specs.Plans.{block_at, block_in, block_out, consumer_of, is_among, is_from, is_rx, is_to, no_block, no_stream, plan_at, producer_of, stream_from, stream_into, stream_out_of, stream_to}
+use Rattle.net_machine.specs.Nodes.{is_endpoint, is_host, planned as node_planned}
+use Rattle.net_machine.specs.Plans.{block_at, block_in, block_out, consumer_of, is_among, is_from, is_rx, is_to, no_block, no_stream, plan_at, producer_of, stream_from, stream_into, stream_out_of, stream_to, is_tx}
 use Rattle.net_flows.specs.Lasting.{IsSound}
 use Rattle.net_present.specs.Fits.{ArePlanned}
 
@@ -144,3 +150,33 @@ module _ (tree : Plan) (plan : RunPlan) (sound : IsSound tree plan) where
     once = once;
     takers = takers;
   }
+
+-- ---- no Rx stands at an endpoint
+
+rx-at-host : (kind : BlockKind) (epid : Epid) (bank : Option ℕ) → (if is_tx kind || is_rx kind then is_host else is_endpoint) (Endpoint epid bank) ≡ true → is_rx kind ≡ false
+rx-at-host Tx epid bank is = refl
+rx-at-host Rx epid bank is = absurd (false≢true is)
+rx-at-host Fifo epid bank is = refl
+rx-at-host Split epid bank is = refl
+rx-at-host (Keep n) epid bank is = refl
+rx-at-host (Repeat n) epid bank is = refl
+rx-at-host (Replay n) epid bank is = refl
+rx-at-host (Switch n) epid bank is = refl
+rx-at-host Sink epid bank is = refl
+
+module _ (tree : Plan) (plan : RunPlan) (is : IsTree tree) (sound : IsSound tree plan) (x b : ℕ) (epid : Epid) (bank : Option ℕ)
+    (endpoint : node_planned tree x ≡ Some (Endpoint epid bank)) where
+  stands-there : IsTrue (stands_at tree (block_at plan b).kind epid) → is_rx (block_at plan b).kind ≡ false
+  stands-there stands =
+      let kind = (block_at plan b).kind in
+      let named : node_with tree.nodes epid ≡ Some x = (epids_name_nodes tree is x epid).1 (ap (option_and_then node_epid) endpoint) in
+      let test = if is_tx kind || is_rx kind then is_host else is_endpoint in
+      let at : stands_at tree kind epid ≡ test (Endpoint epid bank) =
+      ap (λ o. option_map_or (λ y. option_map_or test (node_planned tree y) false) o false) named ∙ ap (λ o. option_map_or test o false) endpoint in
+      rx-at-host kind epid bank (sym at ∙ stands)
+
+  pub endpoint-no-rx : (block_in plan epid ≡ Some b) ⊎ (block_out plan epid ≡ Some b) → is_rx (block_at plan b).kind ≡ false
+  endpoint-no-rx (inl found) =
+      let has = has-input plan epid b found in stands-there ((sound.endpoints b has.there).ins has.input epid has.at)
+  endpoint-no-rx (inr found) =
+      let has = has-output plan epid b found in stands-there ((sound.endpoints b has.there).outs has.output epid has.at)

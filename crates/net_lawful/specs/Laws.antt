@@ -1,13 +1,19 @@
 -- The states of a network are lawful: as it is built, as a run begins, and after each move.
-use Rattle.std.specs.Prelude.{Bool, List, Option}
+use Rattle.std.specs.Prelude.{◌≡◌, ◌⊎◌, ℕ, Bool, false, List, Option, Some}
 use Rattle.block_registers.specs.Registers.{Registers}
+use Rattle.chdr_words.specs.declared.epid.Epid.{Epid}
 use Rattle.net_topology.specs.Tree.{IsTree}
+use Rattle.net_topology.specs.declared.plan.NodePlan.TheVariants.{Endpoint}
 use Rattle.net_topology.specs.declared.plan.Plan.{Plan}
 use Rattle.net_machine.specs.declared.plan.RunPlan.{RunPlan}
 use Rattle.net_machine.specs.Begin.{begun, built}
 use Rattle.net_machine.specs.CanBegin.{CanBegin}
 use Rattle.net_machine.specs.Moves.{IsAllowed, IsAtRest, IsLegal, Move, after_all, after_move}
+use Rattle.net_machine.specs.Nodes.{planned}
+use Rattle.net_machine.specs.Plans.{block_at, block_in, block_out, consumer_of, is_rx, producer_of, stream_into, stream_out_of}
 use Rattle.net_machine.specs.State.{State}
+use Rattle.net_present.specs.Fits.{ArePlanned}
+use Rattle.net_flows.specs.Lasting.{IsSound}
 use Rattle.net_lawful.specs.Lawful.{Lawful}
 use Rattle.net_lawful.specs.Messages.{FitsTree}
 
@@ -28,3 +34,22 @@ LawfulStays = (w : State) (move : Move) → Lawful w → IsAllowed w move → La
 -- So do all moves of a legal list.
 abbrev pub AllAreLawful : Type 0
 AllAreLawful = (w : State) (moves : List Move) → Lawful w → IsLegal w moves → Lawful (after_all w moves)
+
+-- In a plan that can run each input of a block has a stream of its own.
+abbrev pub PlansFit : Type 0
+PlansFit = (tree : Plan) (plan : RunPlan) → IsSound tree plan → ArePlanned plan
+
+-- The block with a stream's input takes its packets, and the one with its output makes them.
+abbrev pub BlocksTake : Type 0
+BlocksTake = (tree : Plan) (plan : RunPlan) (b i s : ℕ) → IsSound tree plan → stream_into plan (block_at plan b) i ≡ Some s
+    → consumer_of plan s ≡ Some b
+
+abbrev pub BlocksGive : Type 0
+BlocksGive = (tree : Plan) (plan : RunPlan) (b j s : ℕ) → IsSound tree plan → stream_out_of plan (block_at plan b) j ≡ Some s
+    → producer_of plan s ≡ Some b
+
+-- No Rx stands at an endpoint.
+abbrev pub NoRxAtEndpoints : Type 0
+NoRxAtEndpoints = (tree : Plan) (plan : RunPlan) (x b : ℕ) (epid : Epid) (bank : Option ℕ) → IsTree tree → IsSound tree plan
+    → planned tree x ≡ Some (Endpoint epid bank) → (block_in plan epid ≡ Some b) ⊎ (block_out plan epid ≡ Some b)
+    → is_rx (block_at plan b).kind ≡ false

@@ -1,5 +1,5 @@
 //! Each law is a function that does nothing and promises it.
-ghost use Rattle.net_lawful.specs.Laws.{AllAreLawful, BegunIsLawful, BuiltIsLawful, LawfulStays};
+ghost use Rattle.net_lawful.specs.Laws.{AllAreLawful, BegunIsLawful, BlocksGive, BlocksTake, BuiltIsLawful, LawfulStays, NoRxAtEndpoints, PlansFit};
 
 /// A network over a tree is lawful as it is built, and as a run begins at rest.
 pub fn networks_begin_lawful()
@@ -11,4 +11,13 @@ pub fn networks_begin_lawful()
 pub fn moves_leave_networks_lawful()
     ensures each { LawfulStays }
     ensures all { AllAreLawful }
+{}
+
+/// In a plan that can run each stream joins two blocks, at an output and an input of its own, and no Rx
+/// stands at an endpoint.
+pub fn streams_join_blocks()
+    ensures plans { PlansFit }
+    ensures takes { BlocksTake }
+    ensures gives { BlocksGive }
+    ensures hosts { NoRxAtEndpoints }
 {}

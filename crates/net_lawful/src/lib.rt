@@ -5,4 +5,4 @@
 
 mod law;
 
-pub use law::{moves_leave_networks_lawful, networks_begin_lawful};
+pub use law::{moves_leave_networks_lawful, networks_begin_lawful, streams_join_blocks};

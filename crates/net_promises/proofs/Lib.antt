@@ -1,0 +1,4 @@
+mod Promising
+mod Holding
+mod Arriving
+pub mod Laws
