@@ -163,7 +163,7 @@ higher : (bound : ℕ) (exit : Option ℕ) → bound ≤ 2 ^ 8 → IfSome exit (
 higher bound None le h = tt
 higher bound (Some port) le h = omega (arith, le, h)
 
-entries-higher : (bound : ℕ) (places : List Place) → bound ≤ 2 ^ 8 → HasEntries bound places → HasEntries (2 ^ 8) places
+pub entries-higher : (bound : ℕ) (places : List Place) → bound ≤ 2 ^ 8 → HasEntries bound places → HasEntries (2 ^ 8) places
 entries-higher bound places le each =
     All-weaker (λ (place : Place). IfSome place.exit (λ port. port < bound)) (λ (place : Place). IfSome place.exit (λ port. port < 2 ^ 8)) (λ place h. higher bound place.exit le h) places each
 

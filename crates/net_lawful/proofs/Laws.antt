@@ -2,6 +2,7 @@
 use Rattle.net_flows.proofs.Laws.{begun_is_steady, steady_stays, unseen_flows}
 use Rattle.net_lawful.specs.Laws as law
 use Rattle.net_lawful.proofs.Beginning.{begun-lawful, built-lawful}
+use Rattle.net_lawful.proofs.Nodes.{can-perform}
 use Rattle.net_lawful.proofs.Planned as plans
 use Rattle.net_lawful.proofs.Staying.{all-lawful, lawful-stays}
 
@@ -28,3 +29,6 @@ blocks_give tree plan b j s sound is = plans.producer-is tree plan sound b j s i
 
 pub no_rx_at_endpoints : law.NoRxAtEndpoints
 no_rx_at_endpoints tree plan x b epid bank is sound endpoint found = plans.endpoint-no-rx tree plan is sound x b epid bank endpoint found
+
+pub nodes_can_perform : law.NodesCanPerform
+nodes_can_perform = can-perform

@@ -38,9 +38,10 @@ use Rattle.net_machine.specs.State.{Entry, Message, Node, State, Stream, Tag, bl
 use Rattle.net_machine.specs.Streams.{counts_in, gets, gets_order, loses, readies, taken_to}
 use Rattle.net_machine.proofs.Laws.{queues}
 use Rattle.net_ways.specs.Ways.{HasQueues}
+use Rattle.net_lawful.specs.Laws.{NodesCanPerform}
 use Rattle.net_lawful.specs.Messages.{AreFit, AreEntriesFit, AreNodesFit, FitsTree, IsAnswerFit, IsFit, IsManagementFit, IsNodeFit}
 use Rattle.net_lawful.proofs.Entering.{more}
-use Rattle.net_lawful.proofs.Fitting.{IsPerformedFit, answer-fit, performed-fit, site-fits}
+use Rattle.net_lawful.proofs.Fitting.{IsPerformedFit, entries-higher, answer-fit, performed-fit, site-fits}
 
 -- ---- nodes change
 
@@ -197,6 +198,15 @@ hops-hold q (e ∷ rest) w is has fits entries each =
     let fit : IsFit e.packet e.packet.body = (subst (AllByRecursion (λ (f : Entry). IsFit f.packet f.packet.body)) is (entries q)).0 in
     let well = passing-well w.tree w.nodes (link_of_queue q) e.packet e.packet.body has.tree fits (link-there w q e rest has is) each refl fit in
     passes-hold (end_of w.tree.links (link_of_queue q)) (channel_of q) e passed.outcome (record (leaves q rest w) { nodes = passed.nodes }) fit well.outcome well.nodes
+
+-- so the node at its end is a site that fits, and so are its table's entries
+pub can-perform : NodesCanPerform
+can-perform w q e rest lawful is =
+    let site = site-fits w.tree (link_of_queue q) lawful.steady.queues.tree lawful.tree (link-there w q e rest lawful.steady.queues is) in
+    record {
+      site = site.fits;
+      entries = entries-higher (port_count w.tree.nodes (end_of w.tree.links (link_of_queue q))) (node_at w (end_of w.tree.links (link_of_queue q))).table site.few (lawful.nodes (end_of w.tree.links (link_of_queue q))).table;
+    }
 
 -- ---- the other events
 

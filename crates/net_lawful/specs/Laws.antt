@@ -1,7 +1,10 @@
 -- The states of a network are lawful: as it is built, as a run begins, and after each move.
-use Rattle.std.specs.Prelude.{◌≡◌, ◌⊎◌, ℕ, Bool, false, List, Option, Some}
+use Rattle.std.specs.Prelude.{◌≡◌, ◌⊎◌, ◌^◌, ℕ, Bool, false, List, ◌∷◌, Option, Some}
 use Rattle.block_registers.specs.Registers.{Registers}
 use Rattle.chdr_words.specs.declared.epid.Epid.{Epid}
+use Rattle.net_nodes.specs.Budget.{FitsSite}
+use Rattle.net_nodes.specs.Table.{HasEntries}
+use Rattle.net_topology.specs.Links.{end_of, end_port}
 use Rattle.net_topology.specs.Tree.{IsTree}
 use Rattle.net_topology.specs.declared.plan.NodePlan.TheVariants.{Endpoint}
 use Rattle.net_topology.specs.declared.plan.Plan.{Plan}
@@ -9,9 +12,10 @@ use Rattle.net_machine.specs.declared.plan.RunPlan.{RunPlan}
 use Rattle.net_machine.specs.Begin.{begun, built}
 use Rattle.net_machine.specs.CanBegin.{CanBegin}
 use Rattle.net_machine.specs.Moves.{IsAllowed, IsAtRest, IsLegal, Move, after_all, after_move}
-use Rattle.net_machine.specs.Nodes.{planned}
+use Rattle.net_machine.specs.Nodes.{planned, site_at}
 use Rattle.net_machine.specs.Plans.{block_at, block_in, block_out, consumer_of, is_rx, producer_of, stream_into, stream_out_of}
-use Rattle.net_machine.specs.State.{State}
+use Rattle.net_machine.specs.Queues.{link_of_queue}
+use Rattle.net_machine.specs.State.{Entry, State, node_at, queue_at}
 use Rattle.net_present.specs.Fits.{ArePlanned}
 use Rattle.net_flows.specs.Lasting.{IsSound}
 use Rattle.net_lawful.specs.Lawful.{Lawful}
@@ -53,3 +57,13 @@ abbrev pub NoRxAtEndpoints : Type 0
 NoRxAtEndpoints = (tree : Plan) (plan : RunPlan) (x b : ℕ) (epid : Epid) (bank : Option ℕ) → IsTree tree → IsSound tree plan
     → planned tree x ≡ Some (Endpoint epid bank) → (block_in plan epid ≡ Some b) ⊎ (block_out plan epid ≡ Some b)
     → is_rx (block_at plan b).kind ≡ false
+
+-- the site at the end of directed link d, as a packet comes over it, and its table fit
+pub record IsSiteFit (w : State) (d : ℕ) : Type 0 where
+  pub site : FitsSite (site_at w.tree (end_of w.tree.links d) (end_port w.tree.links d))
+  pub entries : HasEntries (2 ^ 8) (node_at w (end_of w.tree.links d)).table
+
+-- Where a queue has an entry, the node at its end can perform it.
+abbrev pub NodesCanPerform : Type 0
+NodesCanPerform = (w : State) (q : ℕ) (e : Entry) (rest : List Entry) → Lawful w → queue_at w.queues q ≡ e ∷ rest
+    → IsSiteFit w (link_of_queue q)

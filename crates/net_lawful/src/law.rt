@@ -1,5 +1,5 @@
 //! Each law is a function that does nothing and promises it.
-ghost use Rattle.net_lawful.specs.Laws.{AllAreLawful, BegunIsLawful, BlocksGive, BlocksTake, BuiltIsLawful, LawfulStays, NoRxAtEndpoints, PlansFit};
+ghost use Rattle.net_lawful.specs.Laws.{AllAreLawful, BegunIsLawful, BlocksGive, BlocksTake, BuiltIsLawful, LawfulStays, NoRxAtEndpoints, NodesCanPerform, PlansFit};
 
 /// A network over a tree is lawful as it is built, and as a run begins at rest.
 pub fn networks_begin_lawful()
@@ -20,4 +20,9 @@ pub fn streams_join_blocks()
     ensures takes { BlocksTake }
     ensures gives { BlocksGive }
     ensures hosts { NoRxAtEndpoints }
+{}
+
+/// Where a queue has an entry, the node at its end is a site that fits, and so are its table's entries.
+pub fn nodes_can_perform()
+    ensures { NodesCanPerform }
 {}

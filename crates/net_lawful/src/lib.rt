@@ -1,8 +1,10 @@
 //! What holds of a network in each of its states, from the building of it on.
 //!
-//! Rule: docs/machine.md, "What always holds".
+//! Rule: docs/machine.md, "Lawful states".
 #![tactic(auto)]
 
 mod law;
 
-pub use law::{moves_leave_networks_lawful, networks_begin_lawful, streams_join_blocks};
+pub use law::{
+    moves_leave_networks_lawful, networks_begin_lawful, nodes_can_perform, streams_join_blocks,
+};

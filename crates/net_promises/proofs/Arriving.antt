@@ -1,8 +1,8 @@
 -- Samples that come to the end of their way find room.
-use Rattle.std.proofs.Common.{◌≡◌, ℕ, ◌+◌, ◌<◌, Bool, true, false, List, [], ◌∷◌, ◌++◌, length, map, refl, sym, ◌∙◌, ap, subst, get_or, arith, if◌then◌else◌}
+use Rattle.std.proofs.Common.{◌≡◌, ℕ, ◌+◌, ◌<◌, Bool, true, false, List, [], ◌∷◌, ◌++◌, length, refl, sym, ◌∙◌, ap, subst, get_or, arith, if◌then◌else◌}
 use Rattle.std.specs.Prelude.{Option, Some, None, drop, unwrap_or}
 use Rattle.std.specs.List.{AllByRecursion, flat_map}
-use Rattle.std.specs.Option.{option_and_then, option_map_or}
+use Rattle.std.specs.Option.{option_and_then}
 use Rattle.std.proofs.lemmas.Bool.{false≢true}
 use Rattle.std.proofs.lemmas.List.{length-append}
 use Rattle.std.proofs.lemmas.List.Quantifiers.{position-Some}
@@ -14,7 +14,7 @@ use Rattle.chdr_packets.specs.declared.packet.Packet.{Packet}
 use Rattle.chdr_words.specs.declared.epid.Epid.{Epid}
 use Rattle.net_topology.specs.Leads.{Exits, Leads, LeadsOver, sent_on, turned_to}
 use Rattle.net_topology.specs.Links.{end_of}
-use Rattle.net_topology.specs.Tree.{IsTree, epid_at}
+use Rattle.net_topology.specs.Tree.{IsTree}
 use Rattle.net_topology.specs.declared.plan.Plan.{Plan}
 use Rattle.net_topology.proofs.Laws.{epids_name_nodes, leads_are_ways}
 use Rattle.stream_endpoint.specs.Receiver.{FindsRoom}
@@ -28,7 +28,7 @@ use Rattle.net_machine.specs.Queues.{forward_vc, link_of_queue, queue_of}
 use Rattle.net_machine.specs.State.{Entry, Sample, State, Tag, queue_at, stream_at}
 use Rattle.net_machine.proofs.Laws.{queues}
 use Rattle.net_ways.specs.Standing.{IsMessage, IsPlaced, Stands, StandsAhead}
-use Rattle.net_ways.specs.Ways.{IsLedTo, ahead, forward_way, queues_over, way_between}
+use Rattle.net_ways.specs.Ways.{ahead, forward_way, queues_over, way_between}
 use Rattle.net_ways.proofs.Laws.{samples_come}
 use Rattle.net_streams.specs.Shows.{flight_by, flight_of, load_of, terms_of}
 use Rattle.net_flows.specs.Forms.{Tells, TellsPlace}

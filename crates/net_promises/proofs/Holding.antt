@@ -1,27 +1,22 @@
 -- The counts of each stream, and what a present rests on.
-use Rattle.std.proofs.Common.{◌≡◌, ℕ, ◌+◌, ◌≤◌, ◌<◌, ◌⊎◌, inl, inr, Bool, true, false, List, [], ◌∷◌, length, refl, sym, ◌∙◌, ap, subst, get_or, arith, if◌then◌else◌}
-use Rattle.std.specs.Prelude.{Option, Some, None, All, is_some, slice_get}
+use Rattle.std.proofs.Common.{◌≡◌, ℕ, ◌+◌, ◌≤◌, ◌<◌, ◌⊎◌, inl, inr, true, length, refl, sym, ◌∙◌, ap, subst, arith, if◌then◌else◌}
+use Rattle.std.specs.Prelude.{Option, Some, None, is_some, slice_get}
 use Rattle.std.specs.List.{AllByRecursion}
 use Rattle.std.specs.Option.{option_map_or}
 use Rattle.std.proofs.lemmas.Bool.{cases_lt, false≢true}
-use Rattle.std.proofs.lemmas.List.{get_or_past, length-map, length-take}
+use Rattle.std.proofs.lemmas.List.{get_or_past, length-map}
 use Rattle.std.proofs.lemmas.Option.{get_or_from_slice_get, slice_get_within}
 use Rattle.block_library.specs.Blocks.{IsFeed}
 use Rattle.chdr_packets.specs.Fits.{FitsBody}
-use Rattle.chdr_packets.specs.declared.packet.Body.TheVariants as body
 use Rattle.chdr_packets.specs.declared.packet.Packet.{Packet}
 use Rattle.chdr_words.specs.declared.epid.Epid.{Epid}
-use Rattle.net_topology.specs.declared.plan.NodePlan.TheVariants.{Endpoint}
-use Rattle.stream_endpoint.specs.Receiver.{Receiver}
-use Rattle.stream_endpoint.specs.Sender.{Sender}
 use Rattle.stream_laws.specs.Machine.{Core}
-use Rattle.stream_laws.proofs.Laws.{held_within, holds_run, known_and_outstanding, taken_of_given}
-use Rattle.net_machine.specs.Nodes.{block_on, planned}
-use Rattle.net_machine.specs.Plans.{block_at, block_in, block_out, consumer_of, is_rx, plan_at, producer_of, stream_into}
-use Rattle.net_machine.specs.State.{Entry, State, Stream, idle, queue_at, stream_at}
+use Rattle.stream_laws.proofs.Laws.{held_within, holds_run, known_and_outstanding}
+use Rattle.net_machine.specs.Nodes.{block_on}
+use Rattle.net_machine.specs.Plans.{block_at, block_in, block_out, plan_at, producer_of}
+use Rattle.net_machine.specs.State.{Entry, State, Stream, idle, stream_at}
 use Rattle.net_present.specs.Fits.{Spells}
 use Rattle.net_streams.specs.Shows.{load_of, terms_of}
-use Rattle.net_flows.specs.Flows.{IsFlow}
 use Rattle.net_flows.specs.Forms.{IsPacketOn, item_on}
 use Rattle.net_lawful.specs.Lawful.{Lawful}
 use Rattle.net_lawful.specs.Messages.{IsFit}

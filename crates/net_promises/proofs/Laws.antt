@@ -1,5 +1,5 @@
 -- The laws of specs/, with their proofs, for the proofs of other crates.
-use Rattle.std.proofs.Common.{ap, subst, sym, ◌∙◌, ◌<◌, length}
+use Rattle.std.proofs.Common.{subst, sym, ◌<◌, length}
 use Rattle.net_machine.specs.declared.plan.RunPlan.{RunPlan}
 use Rattle.net_machine.specs.Begin.{begun}
 use Rattle.net_machine.proofs.Laws.{shapes_stay}

@@ -1,5 +1,5 @@
 -- Each stream of a lawful network keeps the report's promise.
-use Rattle.std.proofs.Common.{◌≡◌, ℕ, ◌+◌, ◌-◌, ◌≤◌, ◌<◌, ◌⊎◌, inl, inr, Bool, true, false, IsTrue, List, [], ◌∷◌, ◌++◌, length, map, take, drop, refl, sym, ◌∙◌, ap, subst, get_or, arith, append-nil, eq-eqb, zero, suc}
+use Rattle.std.proofs.Common.{◌≡◌, ℕ, ◌+◌, ◌-◌, ◌≤◌, ◌<◌, inl, inr, Bool, true, false, IsTrue, List, [], ◌∷◌, ◌++◌, length, map, take, drop, refl, sym, ◌∙◌, ap, subst, arith, append-nil, zero, suc}
 use Rattle.std.specs.Prelude.{not, ◌==◌, ◌&&◌}
 use Rattle.std.specs.List.{Contains}
 use Rattle.std.proofs.lemmas.Bool.{eqb-true, false≢true}
@@ -15,15 +15,14 @@ use Rattle.stream_laws.specs.Chains.{IsLost}
 use Rattle.stream_laws.specs.Ends.{IsDrained}
 use Rattle.stream_laws.specs.Epochs.{EachEpoch as EachLoaded, reach as reach_of}
 use Rattle.stream_laws.specs.Laws.{piece}
-use Rattle.stream_laws.specs.Machine.{Core, Load, State as OneStream}
+use Rattle.stream_laws.specs.Machine.{Core, Load}
 use Rattle.stream_laws.proofs.Laws.{epochwise, gives_all, known_and_outstanding, stops_at_loss, taken_of_given}
 use Rattle.net_machine.specs.Blocks.{drained_by, has_packet, is_closed, is_drained}
-use Rattle.net_machine.specs.Front.{StreamFront, front, front_at, stream_front}
+use Rattle.net_machine.specs.Front.{StreamFront, front, stream_front}
 use Rattle.net_machine.specs.Plain.{numbered_from}
 use Rattle.net_machine.specs.Plans.{plan_at}
 use Rattle.net_machine.specs.Promises.{EachEpoch, IsComplete, IsPrefixBetween, KeepsPromise, StopsAtLoss, part, reach}
 use Rattle.net_machine.specs.State.{State, Stream, stream_at}
-use Rattle.net_machine.specs.Streams.{taken_of}
 use Rattle.net_machine.proofs.Laws.{fronts}
 use Rattle.net_streams.specs.Shows.{core_of, load_of, loads_of, terms_of}
 use Rattle.net_flows.specs.Flows.{IsFlow}
@@ -51,9 +50,10 @@ prefix-unload : (from here : Cut) (given sent : List Packet) → IsPrefix (piece
     IsPrefix (part from.given here.given given) (part from.sent here.sent sent)
 prefix-unload from here given sent is =
     let whole = ap (map item_of) is.1 in
-    let parts = map-append item_of (piece from.given here.given (loads_of given)) is.0 in
-    (map item_of is.0,
-        ap (λ xs. xs ++ map item_of is.0) (sym (piece-unload from.given here.given given)) ∙ sym parts ∙ whole ∙ piece-unload from.sent here.sent sent)
+    let parts = map-append item_of (piece from.given here.given (loads_of given)) is.0 in (
+      map item_of is.0,
+      ap (λ xs. xs ++ map item_of is.0) (sym (piece-unload from.given here.given given)) ∙ sym parts ∙ whole ∙ piece-unload from.sent here.sent sent,
+    )
 
 -- ---- epoch by epoch
 
