@@ -3,6 +3,7 @@ use Rattle.net_flows.proofs.Laws.{begun_is_steady, steady_stays, unseen_flows}
 use Rattle.net_lawful.specs.Laws as law
 use Rattle.net_lawful.proofs.Beginning.{begun-lawful, built-lawful}
 use Rattle.net_lawful.proofs.Nodes.{can-perform}
+use Rattle.net_lawful.proofs.Peaks.{peak-follows}
 use Rattle.net_lawful.proofs.Planned as plans
 use Rattle.net_lawful.proofs.Staying.{all-lawful, lawful-stays}
 
@@ -32,3 +33,6 @@ no_rx_at_endpoints tree plan x b epid bank is sound endpoint found = plans.endpo
 
 pub nodes_can_perform : law.NodesCanPerform
 nodes_can_perform = can-perform
+
+pub peaks_follow : law.PeaksFollow
+peaks_follow = peak-follows

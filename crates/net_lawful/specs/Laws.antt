@@ -10,13 +10,17 @@ use Rattle.net_topology.specs.declared.plan.NodePlan.TheVariants.{Endpoint}
 use Rattle.net_topology.specs.declared.plan.Plan.{Plan}
 use Rattle.net_machine.specs.declared.plan.RunPlan.{RunPlan}
 use Rattle.net_machine.specs.Begin.{begun, built}
+use Rattle.net_machine.specs.declared.event.Event.{Event}
 use Rattle.net_machine.specs.CanBegin.{CanBegin}
+use Rattle.net_machine.specs.Effects.{after}
 use Rattle.net_machine.specs.Moves.{IsAllowed, IsAtRest, IsLegal, Move, after_all, after_move}
 use Rattle.net_machine.specs.Nodes.{planned, site_at}
 use Rattle.net_machine.specs.Plans.{block_at, block_in, block_out, consumer_of, is_rx, producer_of, stream_into, stream_out_of}
 use Rattle.net_machine.specs.Queues.{link_of_queue}
-use Rattle.net_machine.specs.State.{Entry, State, node_at, queue_at}
+use Rattle.net_machine.specs.State.{Entry, State, node_at, queue_at, stream_at}
+use Rattle.net_machine.specs.Streams.{most}
 use Rattle.net_present.specs.Fits.{ArePlanned}
+use Rattle.net_flows.specs.Flows.{IsSteady}
 use Rattle.net_flows.specs.Lasting.{IsSound}
 use Rattle.net_lawful.specs.Lawful.{Lawful}
 use Rattle.net_lawful.specs.Messages.{FitsTree}
@@ -67,3 +71,9 @@ pub record IsSiteFit (w : State) (d : ℕ) : Type 0 where
 abbrev pub NodesCanPerform : Type 0
 NodesCanPerform = (w : State) (q : ℕ) (e : Entry) (rest : List Entry) → Lawful w → queue_at w.queues q ≡ e ∷ rest
     → IsSiteFit w (link_of_queue q)
+
+-- The peak of a stream stays at an event, or follows what is outstanding then.
+abbrev pub PeaksFollow : Type 0
+PeaksFollow = (w : State) (e : Event) (s : ℕ) → IsSteady w
+    → ((stream_at (after w e) s).peak ≡ (stream_at w s).peak)
+    ⊎ ((stream_at (after w e) s).peak ≡ most (stream_at w s).peak (stream_at (after w e) s).sender.outstanding)

@@ -1,5 +1,5 @@
 //! Each law is a function that does nothing and promises it.
-ghost use Rattle.net_lawful.specs.Laws.{AllAreLawful, BegunIsLawful, BlocksGive, BlocksTake, BuiltIsLawful, LawfulStays, NoRxAtEndpoints, NodesCanPerform, PlansFit};
+ghost use Rattle.net_lawful.specs.Laws.{AllAreLawful, BegunIsLawful, BlocksGive, BlocksTake, BuiltIsLawful, LawfulStays, NoRxAtEndpoints, NodesCanPerform, PeaksFollow, PlansFit};
 
 /// A network over a tree is lawful as it is built, and as a run begins at rest.
 pub fn networks_begin_lawful()
@@ -25,4 +25,9 @@ pub fn streams_join_blocks()
 /// Where a queue has an entry, the node at its end is a site that fits, and so are its table's entries.
 pub fn nodes_can_perform()
     ensures { NodesCanPerform }
+{}
+
+/// The peak of a stream stays at an event, or follows what is outstanding then.
+pub fn peaks_follow()
+    ensures { PeaksFollow }
 {}

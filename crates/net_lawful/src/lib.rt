@@ -6,5 +6,6 @@
 mod law;
 
 pub use law::{
-    moves_leave_networks_lawful, networks_begin_lawful, nodes_can_perform, streams_join_blocks,
+    moves_leave_networks_lawful, networks_begin_lawful, nodes_can_perform, peaks_follow,
+    streams_join_blocks,
 };

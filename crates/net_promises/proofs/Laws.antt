@@ -7,8 +7,10 @@ use Rattle.net_lawful.proofs.Laws.{all_are_lawful, begun_is_lawful}
 use Rattle.net_promises.specs.Arriving as arriving
 use Rattle.net_promises.specs.Held as held
 use Rattle.net_promises.specs.Laws as law
+use Rattle.net_promises.specs.Peaks as peaks
 use Rattle.net_promises.proofs.Arriving.{arrivals-find-room}
 use Rattle.net_promises.proofs.Holding.{feeds-fit, fits-present, requests-fit, streams-within}
+use Rattle.net_promises.proofs.Peaking.{tallies-kept}
 use Rattle.net_promises.proofs.Promising.{keeps-promises}
 
 pub lawful_keeps_promises : law.LawfulKeepsPromises
@@ -34,3 +36,6 @@ requests_fit = requests-fit
 
 pub feeds_fit : arriving.FeedsFit
 feeds_fit = feeds-fit
+
+pub tallies_are_kept : peaks.TalliesAreKept
+tallies_are_kept = tallies-kept

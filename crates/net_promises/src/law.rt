@@ -1,6 +1,7 @@
 //! Each law is a function that does nothing and promises it.
 ghost use Rattle.net_promises.specs.Arriving.{ArrivalsFindRoom, FeedsFit, RequestsFit};
 ghost use Rattle.net_promises.specs.Held.{StreamsAreWithin};
+ghost use Rattle.net_promises.specs.Peaks.{TalliesAreKept};
 ghost use Rattle.net_promises.specs.Laws.{LawfulFitsPresent, LawfulKeepsPromises, RunsKeepPromises};
 
 /// Each stream keeps the report's promise, in each state of a legal run.
@@ -26,4 +27,10 @@ pub fn what_comes_can_be_taken_in()
 /// A present can stand for each state.
 pub fn states_fit_their_present()
     ensures { LawfulFitsPresent }
+{}
+
+/// The peaks that a state keeps are the greatest of all states of its run, so what a stream did by that state
+/// is what it did in the run.
+pub fn states_keep_their_tallies()
+    ensures { TalliesAreKept }
 {}

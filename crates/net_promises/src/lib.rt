@@ -7,6 +7,6 @@
 mod law;
 
 pub use law::{
-    runs_keep_their_promises, states_fit_their_present, streams_stay_within_capacity,
-    what_comes_can_be_taken_in,
+    runs_keep_their_promises, states_fit_their_present, states_keep_their_tallies,
+    streams_stay_within_capacity, what_comes_can_be_taken_in,
 };
