@@ -1,0 +1,21 @@
+-- The laws of specs/, with their proofs, for the proofs of other crates.
+use Rattle.net_needs.specs.EnteringLaws as entering
+use Rattle.net_needs.proofs.Entering.{ask-ready, command-ready, enter-ready, reply-ready, report-ready, seen-ready}
+
+pub enter_is_ready : entering.EnterIsReady
+enter_is_ready = enter-ready
+
+pub command_is_ready : entering.CommandIsReady
+command_is_ready = command-ready
+
+pub report_is_ready : entering.ReportIsReady
+report_is_ready = report-ready
+
+pub seen_is_ready : entering.SeenIsReady
+seen_is_ready = seen-ready
+
+pub ask_is_ready : entering.AskIsReady
+ask_is_ready = ask-ready
+
+pub reply_is_ready : entering.ReplyIsReady
+reply_is_ready = reply-ready

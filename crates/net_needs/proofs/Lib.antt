@@ -1,0 +1,3 @@
+mod Knowing
+mod Entering
+pub mod Laws

@@ -1,0 +1,6 @@
+//! What a running net asks of its parts at each event follows from a lawful state.
+#![tactic(auto)]
+
+mod law;
+
+pub use law::what_enters_has_a_place;
