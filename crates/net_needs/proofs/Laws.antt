@@ -1,6 +1,8 @@
 -- The laws of specs/, with their proofs, for the proofs of other crates.
 use Rattle.net_needs.specs.EnteringLaws as entering
+use Rattle.net_needs.specs.HoppingLaws as hopping
 use Rattle.net_needs.proofs.Entering.{ask-ready, command-ready, enter-ready, reply-ready, report-ready, seen-ready}
+use Rattle.net_needs.proofs.Hopping.{hop-ready, lose-ready}
 
 pub enter_is_ready : entering.EnterIsReady
 enter_is_ready = enter-ready
@@ -19,3 +21,9 @@ ask_is_ready = ask-ready
 
 pub reply_is_ready : entering.ReplyIsReady
 reply_is_ready = reply-ready
+
+pub hop_is_ready : hopping.HopIsReady
+hop_is_ready = hop-ready
+
+pub lose_is_ready : hopping.LoseIsReady
+lose_is_ready = lose-ready

@@ -1,3 +1,5 @@
 mod Knowing
 mod Entering
+mod Ends
+mod Hopping
 pub mod Laws

@@ -1,2 +1,4 @@
 pub mod Entering
 pub mod EnteringLaws
+pub mod Hopping
+pub mod HoppingLaws

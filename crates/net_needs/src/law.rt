@@ -1,5 +1,6 @@
 //! Each law is a function that does nothing and promises it.
 ghost use Rattle.net_needs.specs.EnteringLaws.{AskIsReady, CommandIsReady, EnterIsReady, ReplyIsReady, ReportIsReady, SeenIsReady};
+ghost use Rattle.net_needs.specs.HoppingLaws.{HopIsReady, LoseIsReady};
 
 /// Where a sample, a command, a status, a request or an answer may enter, its stream or node is there,
 /// and so is its first queue, with room. So is the stream of which an Rx takes packets.
@@ -10,4 +11,12 @@ pub fn what_enters_has_a_place()
     ensures seen { SeenIsReady }
     ensures ask { AskIsReady }
     ensures reply { ReplyIsReady }
+{}
+
+/// Where an entry may hop, its queue and its link are there, and what the node at the end of the link does with
+/// it can be done: it has room where it goes on, a stream to which it comes is there and has room for samples that it
+/// keeps, and a request or a management packet fits. An entry that may be lost is there.
+pub fn what_hops_or_is_lost_is_there()
+    ensures hop { HopIsReady }
+    ensures lose { LoseIsReady }
 {}

@@ -3,4 +3,4 @@
 
 mod law;
 
-pub use law::what_enters_has_a_place;
+pub use law::{what_enters_has_a_place, what_hops_or_is_lost_is_there};
