@@ -1,7 +1,9 @@
 -- The laws of specs/, with their proofs, for the proofs of other crates.
 use Rattle.net_needs.specs.EnteringLaws as entering
+use Rattle.net_needs.specs.FeedingLaws as feeding
 use Rattle.net_needs.specs.HoppingLaws as hopping
 use Rattle.net_needs.proofs.Entering.{ask-ready, command-ready, enter-ready, reply-ready, report-ready, seen-ready}
+use Rattle.net_needs.proofs.Feeding.{feed-ready}
 use Rattle.net_needs.proofs.Hopping.{hop-ready, lose-ready}
 
 pub enter_is_ready : entering.EnterIsReady
@@ -27,3 +29,6 @@ hop_is_ready = hop-ready
 
 pub lose_is_ready : hopping.LoseIsReady
 lose_is_ready = lose-ready
+
+pub feed_is_ready : feeding.FeedIsReady
+feed_is_ready = feed-ready

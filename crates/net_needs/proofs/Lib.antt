@@ -2,4 +2,5 @@ mod Knowing
 mod Entering
 mod Ends
 mod Hopping
+mod Feeding
 pub mod Laws

@@ -2,3 +2,5 @@ pub mod Entering
 pub mod EnteringLaws
 pub mod Hopping
 pub mod HoppingLaws
+pub mod Feeding
+pub mod FeedingLaws

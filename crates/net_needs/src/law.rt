@@ -1,5 +1,6 @@
 //! Each law is a function that does nothing and promises it.
 ghost use Rattle.net_needs.specs.EnteringLaws.{AskIsReady, CommandIsReady, EnterIsReady, ReplyIsReady, ReportIsReady, SeenIsReady};
+ghost use Rattle.net_needs.specs.FeedingLaws.{FeedIsReady};
 ghost use Rattle.net_needs.specs.HoppingLaws.{HopIsReady, LoseIsReady};
 
 /// Where a sample, a command, a status, a request or an answer may enter, its stream or node is there,
@@ -19,4 +20,10 @@ pub fn what_enters_has_a_place()
 pub fn what_hops_or_is_lost_is_there()
     ensures hop { HopIsReady }
     ensures lose { LoseIsReady }
+{}
+
+/// Where a packet may be fed to a block, the block and the stream of the packet are there, the block takes the packet,
+/// and what it gives can become ready on the streams that begin at it.
+pub fn what_is_fed_is_taken()
+    ensures { FeedIsReady }
 {}

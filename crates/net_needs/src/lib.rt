@@ -3,4 +3,4 @@
 
 mod law;
 
-pub use law::{what_enters_has_a_place, what_hops_or_is_lost_is_there};
+pub use law::{what_enters_has_a_place, what_hops_or_is_lost_is_there, what_is_fed_is_taken};
