@@ -2,6 +2,11 @@
 use Rattle.net_needs.specs.EnteringLaws as entering
 use Rattle.net_needs.specs.FeedingLaws as feeding
 use Rattle.net_needs.specs.HoppingLaws as hopping
+use Rattle.net_needs.specs.Needs as needs
+use Rattle.net_needs.specs.Staying as staying
+use Rattle.net_needs.proofs.Counting.{counts-rise}
+use Rattle.net_needs.proofs.Needs.{lawful-needs}
+use Rattle.net_needs.proofs.Staying.{sizes-stay}
 use Rattle.net_needs.proofs.Entering.{ask-ready, command-ready, enter-ready, reply-ready, report-ready, seen-ready}
 use Rattle.net_needs.proofs.Feeding.{feed-ready}
 use Rattle.net_needs.proofs.Hopping.{hop-ready, lose-ready}
@@ -32,3 +37,12 @@ lose_is_ready = lose-ready
 
 pub feed_is_ready : feeding.FeedIsReady
 feed_is_ready = feed-ready
+
+pub lawful_gives_needs : needs.LawfulGivesNeeds
+lawful_gives_needs = lawful-needs
+
+pub sizes_stay : staying.SizesStay
+sizes_stay = sizes-stay
+
+pub counts_rise : staying.CountsRise
+counts_rise = counts-rise

@@ -3,4 +3,7 @@ mod Entering
 mod Ends
 mod Hopping
 mod Feeding
+mod Staying
+mod Counting
+mod Needs
 pub mod Laws

@@ -4,3 +4,5 @@ pub mod Hopping
 pub mod HoppingLaws
 pub mod Feeding
 pub mod FeedingLaws
+pub mod Staying
+pub mod Needs

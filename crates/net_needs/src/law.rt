@@ -2,6 +2,8 @@
 ghost use Rattle.net_needs.specs.EnteringLaws.{AskIsReady, CommandIsReady, EnterIsReady, ReplyIsReady, ReportIsReady, SeenIsReady};
 ghost use Rattle.net_needs.specs.FeedingLaws.{FeedIsReady};
 ghost use Rattle.net_needs.specs.HoppingLaws.{HopIsReady, LoseIsReady};
+ghost use Rattle.net_needs.specs.Needs.{LawfulGivesNeeds};
+ghost use Rattle.net_needs.specs.Staying.{CountsRise, SizesStay};
 
 /// Where a sample, a command, a status, a request or an answer may enter, its stream or node is there,
 /// and so is its first queue, with room. So is the stream of which an Rx takes packets.
@@ -26,4 +28,16 @@ pub fn what_hops_or_is_lost_is_there()
 /// and what it gives can become ready on the streams that begin at it.
 pub fn what_is_fed_is_taken()
     ensures { FeedIsReady }
+{}
+
+/// So what each event asks of the parts is there, wherever a present of a lawful state tells that it is enabled.
+pub fn what_is_enabled_can_be_done()
+    ensures { LawfulGivesNeeds }
+{}
+
+/// Each event keeps the tree, the plan, how many queues, nodes, streams and blocks there are, and the form of each
+/// block, and raises each count by one at most.
+pub fn sizes_stay_and_counts_rise_slowly()
+    ensures sizes { SizesStay }
+    ensures counts { CountsRise }
 {}
