@@ -1,6 +1,6 @@
 -- What a Hop and a Lose ask of the parts is there.
 use Rattle.std.proofs.Common.{◌≡◌, ℕ, ◌*◌, ◌<◌, ◌≤◌, ◌⊎◌, inl, inr, Bool, true, false, List, [], ◌∷◌, length, map, refl, sym, ◌∙◌, ap, subst, arith, if◌then◌else◌}
-use Rattle.std.specs.Prelude.{Option, Some, None, IsSome, nat_lt, not, ◌==◌}
+use Rattle.std.specs.Prelude.{Option, Some, None, IsSome, nat_lt, not, ◌==◌, is_some}
 use Rattle.std.specs.List.{AllByRecursion}
 use Rattle.std.specs.Option.{option_and_then, option_map_or}
 use Rattle.std.proofs.Math.ListN.{get_or-map}
@@ -26,19 +26,20 @@ use Rattle.net_topology.proofs.Laws.{links_join_ports}
 use Rattle.stream_endpoint.specs.Receiver.{FindsRoom, Receiver}
 use Rattle.stream_endpoint.specs.InEnd.{kept_receiver}
 use Rattle.stream_endpoint.proofs.Laws.{kept_finds_room}
+use Rattle.net_machine.specs.declared.plan.BlockPlan.{BlockPlan}
 use Rattle.net_machine.specs.declared.plan.RunPlan.{RunPlan}
 use Rattle.net_machine.specs.CanBegin.{may_tell_time, size_from}
 use Rattle.net_machine.specs.Conditions.{can_hop, can_lose, has_way, may}
 use Rattle.net_machine.specs.Front.{Queued, queued}
 use Rattle.net_machine.specs.Nodes.{exits_of, is_switch, own_epid}
 use Rattle.net_machine.specs.Passing.{Arrives, Ends, Outcome, Passes, Returns, by_table, goes_on, leaves_by, passing, passing_by, walked_by, walking}
-use Rattle.net_machine.specs.Plans.{block_at, is_from, is_to, no_stream, plan_at, producer_of, stream_from, stream_to}
+use Rattle.net_machine.specs.Plans.{block_at, block_in, block_out, is_among, is_from, is_to, no_block, no_stream, plan_at, producer_of, stream_from, stream_to}
 use Rattle.net_machine.specs.Queues.{channel_of, link_count, link_of_queue}
 use Rattle.net_machine.specs.State.{Entry, Node, State, queue_at, stream_at}
 use Rattle.net_machine.proofs.Laws.{queues}
 use Rattle.net_ways.specs.Standing.{IsMessage, IsPlaced, Stands}
 use Rattle.net_present.specs.Kept.{IsNow, now_at}
-use Rattle.net_present.specs.Onward.{entries_at}
+use Rattle.net_present.specs.Onward.{block_on_now, entries_at}
 use Rattle.net_present.specs.Present.{Present, StreamNow, front_now}
 use Rattle.net_flows.specs.Forms.{IsPacketOn, Tells}
 use Rattle.net_flows.specs.Lasting.{IsSound}
@@ -208,6 +209,14 @@ samples-need p w q s entry behind time payload lawful now led is samples none at
       short = short-on w.tree w.plan telling.stream entry.packet steady.plan telling.there telling.form;
     }
 
+-- the block at an EPID is there
+block-there : (p : Present) → Knows p → (epid : Epid) (b : ℕ) → block_on_now p epid ≡ Some b → b < length p.blocks
+block-there p known epid b = by_side (is_some (block_in p.plan epid))
+  where
+    by_side : (side : Bool) → (if side then block_in p.plan epid else block_out p.plan epid) ≡ Some b → b < length p.blocks
+    by_side true is = subst (λ n. b < n) (sym known.blocks) (position-Some (λ (block : BlockPlan). is_among epid block.ins) p.plan.blocks b no_block is).0
+    by_side false is = subst (λ n. b < n) (sym known.blocks) (position-Some (λ (block : BlockPlan). is_among epid block.outs) p.plan.blocks b no_block is).0
+
 -- where no stream has anything under way, no samples come
 none-comes : (w : State) (q : ℕ) (entry : Entry) (behind : List Entry) (time : Option ℕ) (payload : List ℕ) → AreStilled w → queue_at w.queues q ≡ entry ∷ behind →
     entry.packet.body ≡ body.Samples time payload → ⊥
@@ -223,7 +232,7 @@ body-needs p w q entry behind (body.Samples time payload) lawful now is has fit 
     ]
 body-needs p w q entry behind (body.Status status) lawful now is has fit = λ s at. from-there p _ s (knows p w lawful now) at
 body-needs p w q entry behind (body.Command c) lawful now is has fit = λ s at. to-there p _ s (knows p w lawful now) at
-body-needs p w q entry behind (body.Control c) lawful now is has fit = subst FitsBody has fit.fits.body
+body-needs p w q entry behind (body.Control c) lawful now is has fit = record { fits = subst FitsBody has fit.fits.body; blocks = block-there p (knows p w lawful now) }
 body-needs p w q entry behind (body.Management m) lawful now is has fit = record { fits = subst FitsBody has fit.fits.body; answers = fit.answers }
 
 -- ---- Hop and Lose

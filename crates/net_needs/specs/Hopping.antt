@@ -6,6 +6,8 @@ use Rattle.chdr_packets.specs.declared.packet.Body.TheVariants as body
 use Rattle.chdr_packets.specs.declared.packet.Packet.{Packet}
 use Rattle.chdr_words.specs.Control.{FitsControl}
 use Rattle.chdr_words.specs.Management.{FitsManagement}
+use Rattle.chdr_words.specs.declared.control.Control.{Control}
+use Rattle.chdr_words.specs.declared.epid.Epid.{Epid}
 use Rattle.chdr_words.specs.declared.management.Management.{Management}
 use Rattle.net_nodes.specs.Budget.{budget}
 use Rattle.net_topology.specs.Links.{end_of, end_port}
@@ -17,7 +19,7 @@ use Rattle.net_machine.specs.Passing.{Arrives, Ends, Outcome, Passes, Returns, p
 use Rattle.net_machine.specs.Plans.{plan_at, stream_from, stream_to}
 use Rattle.net_machine.specs.Queues.{channel_of, link_count, link_of_queue}
 use Rattle.net_present.specs.Kept.{now_at}
-use Rattle.net_present.specs.Onward.{entries_at}
+use Rattle.net_present.specs.Onward.{block_on_now, entries_at}
 use Rattle.net_present.specs.Present.{Present}
 use Rattle.net_needs.specs.Entering.{HasRoom}
 
@@ -46,13 +48,18 @@ pub record ManagementNeeds (m : Management) : Type 0 where
   pub fits : FitsManagement m
   pub answers : budget m ≤ 256
 
+-- a control packet has a spelling, and each block whose registers may answer it is there
+pub record ControlNeeds (p : Present) (c : Control) : Type 0 where
+  pub fits : FitsControl c
+  pub blocks : (epid : Epid) (b : ℕ) → block_on_now p epid ≡ Some b → b < length p.blocks
+
 -- what a packet with this body asks at node x, where it comes
 abbrev pub BodyNeeds : Present → ℕ → Packet → Body → Type 0
 BodyNeeds p x packet (body.Samples time payload) =
     (s : ℕ) → is_switch p.tree x ≡ false → stream_to p.plan (own_epid p.tree x) ≡ Some s → SamplesNeed p s packet
 BodyNeeds p x packet (body.Command c) = (s : ℕ) → stream_to p.plan (own_epid p.tree x) ≡ Some s → s < length p.streams
 BodyNeeds p x packet (body.Status status) = (s : ℕ) → stream_from p.plan (own_epid p.tree x) ≡ Some s → s < length p.streams
-BodyNeeds p x packet (body.Control c) = FitsControl c
+BodyNeeds p x packet (body.Control c) = ControlNeeds p c
 BodyNeeds p x packet (body.Management m) = ManagementNeeds m
 
 -- the link of a queue is there, and ends at a node by a port of it
