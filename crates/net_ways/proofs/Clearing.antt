@@ -12,9 +12,9 @@ use Rattle.net_machine.specs.Passing.{Outcome, Passes, Returns, Arrives, Ends, p
 use Rattle.net_machine.specs.Queues.{channel_of, link_of_queue, queue_of}
 use Rattle.net_machine.specs.State.{Entry, State, queue_at}
 use Rattle.net_machine.proofs.Laws.{fronts, queues}
-use Rattle.net_ways.specs.Clear.{ChannelsGoOn, GoesOnAt}
+use Rattle.net_ways.specs.Clear.{ChannelsGoOn, Follows, GoesOnAt}
 use Rattle.net_ways.specs.Ways.{HasQueues}
-use Rattle.net_ways.proofs.Following.{Follows, passing-follows}
+use Rattle.net_ways.proofs.Following.{passing-follows}
 
 -- a queue isn't empty
 abbrev has_entry : List Entry → Bool

@@ -31,6 +31,7 @@ use Rattle.net_machine.specs.Nodes.{exits_of, is_switch, planned, site_at, site_
 use Rattle.net_machine.specs.Passing.{Outcome, Passes, Returns, Arrives, Ends, by_table, goes_on, leaves_by, passing, passing_by, walked_by, walking}
 use Rattle.net_machine.specs.Plans.{no_epid}
 use Rattle.net_machine.specs.State.{Node, node_in}
+use Rattle.net_ways.specs.Clear.{Follows, OutcomesFollow}
 
 -- ---- by the table
 
@@ -48,13 +49,6 @@ chosen-follows tree d e (Some port) h = let t = turned-some tree d port e h in o
 table-follows : (tree : Plan) (d e : ℕ) (b : Bool) (exit : Option ℕ) → (if b then option_and_then (turned_to tree d) exit else None) ≡ Some e → MayFollow tree.links d e
 table-follows tree d e true exit h = chosen-follows tree d e exit h
 table-follows tree d e false exit h = let z : ◌≡◌ {A = Option ℕ} None (Some e) = h in cc
-
--- what goes on may follow the link over which it came
-abbrev pub Follows : Plan → ℕ → Outcome → Type 0
-Follows tree d (Passes e p) = MayFollow tree.links d e
-Follows tree d (Returns p) = Unit {0}
-Follows tree d Arrives = Unit {0}
-Follows tree d Ends = Unit {0}
 
 over-follows : (tree : Plan) (d : ℕ) (p : Packet) (o : Option ℕ) → ((e : ℕ) → o ≡ Some e → MayFollow tree.links d e) →
     Follows tree d (option_map_or (λ (e : ℕ). Passes e p) o Ends)
@@ -150,6 +144,5 @@ passing-by_follows tree is nodes d there p (body.Management m) = by_epid (p.dst.
     by_epid true false = walked-follows tree is nodes d there p m
     by_epid false c = goes-follows tree nodes d p
 
-pub passing-follows : (tree : Plan) (is : IsTree tree) (nodes : List Node) (d : ℕ) → d < 2 * length tree.links → (p : Packet) →
-    Follows tree d (passing tree nodes d p).outcome
+pub passing-follows : OutcomesFollow
 passing-follows tree is nodes d there p = passing-by_follows tree is nodes d there p p.body

@@ -12,6 +12,7 @@ use Rattle.net_ways.proofs.Blindness.{hops-unseen, joins-unseen, leaves-unseen, 
 use Rattle.net_ways.proofs.Clearing.{channels-go_on}
 use Rattle.net_ways.proofs.Coming.{commands-come, samples-come, statuses-come}
 use Rattle.net_ways.proofs.Entering.{enters-ahead, enters-back, loses-ahead, loses-back}
+use Rattle.net_ways.proofs.Following.{passing-follows}
 use Rattle.net_ways.proofs.Gathering.{gather-blind, gather-comes, gather-joins, gather-loses, gather-moves}
 use Rattle.net_ways.proofs.Leading.{over-queues, ways-begin}
 use Rattle.net_ways.proofs.Moving.{hops-ahead, hops-back, hops-by_table}
@@ -41,6 +42,9 @@ ways_begin = ways-begin
 
 pub channels_go_on : clear.ChannelsGoOn
 channels_go_on = channels-go_on
+
+pub outcomes_follow : clear.OutcomesFollow
+outcomes_follow = passing-follows
 
 pub hops_by_table : hops.HopsByTable
 hops_by_table = hops-by_table

@@ -1,6 +1,6 @@
 //! Each law is a function that does nothing and promises it.
 ghost use Rattle.net_ways.specs.Beginning.{BegunHasQueues, BegunHasWays, BuiltHasQueues, EmptyIsPlaced, QueuesStay};
-ghost use Rattle.net_ways.specs.Clear.{ChannelsGoOn};
+ghost use Rattle.net_ways.specs.Clear.{ChannelsGoOn, OutcomesFollow};
 ghost use Rattle.net_ways.specs.Entering.{EntersAhead, EntersBack, LosesAhead, LosesBack};
 ghost use Rattle.net_ways.specs.Gather.{Comes, IsBlind, Joins, Loses, Moves};
 ghost use Rattle.net_ways.specs.Hops.{CommandsCome, HopsAhead, HopsBack, HopsByTable, SamplesCome, StatusesCome};
@@ -26,6 +26,11 @@ pub fn tables_lead_over_queues()
 /// Where a queue has an entry, some entry of its channel moves on or is lost.
 pub fn channels_go_on()
     ensures { ChannelsGoOn }
+{}
+
+/// A packet that goes on from a node never goes back by its port of arrival.
+pub fn packets_never_turn_back()
+    ensures { OutcomesFollow }
 {}
 
 /// An entry that hops on stays on its way.
