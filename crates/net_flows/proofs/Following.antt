@@ -8,8 +8,8 @@ use Rattle.stream_endpoint.specs.Counts.{is_none}
 use Rattle.stream_endpoint.specs.Sender.{is_covered, is_running}
 use Rattle.stream_endpoint.specs.declared.state.OutState.{OutState}
 use Rattle.stream_endpoint.specs.declared.state.OutState.TheVariants.{Opening, Running, Halted, Resyncing}
-use Rattle.stream_laws.proofs.Laws.{goes_on, stays_drained}
-use Rattle.stream_laws.specs.Acts.{Close, after as act_after}
+use Rattle.stream_laws.proofs.Laws.{goes_on, joins, stays_drained}
+use Rattle.stream_laws.specs.Acts.{Close, Leads, after as act_after}
 use Rattle.stream_laws.specs.Effects.{closes_core}
 use Rattle.stream_laws.specs.Ends.{IsDrained}
 use Rattle.stream_laws.specs.Laws.{IsRun}
@@ -34,6 +34,7 @@ pub record Went (terms : Terms) (v : State) (s : ℕ) (closed : Bool) (st : OneS
   pub state : OneStream Packet
   pub run : IsRun terms state
   pub shows : Shows v s closed state
+  pub leads : Leads terms st state
   pub drained : IsDrained st → IsDrained state
 
 pub went-by : (w v : State) (s : ℕ) (closed : Bool) (st : OneStream Packet) → IsRun (terms_of (plan_at w.plan s)) st → Acts w v s closed st → Went (terms_of (plan_at w.plan s)) v s closed st
@@ -43,6 +44,7 @@ went-by w v s closed st run acts =
       state = act_after terms st acts.act;
       run = record { valid = run.valid; run = goes_on terms (opens terms) st acts.act run.run acts.allowed };
       shows = acts.shows;
+      leads = record { acts = acts.act ∷ []; legal = (acts.allowed, tt); there = refl };
       drained = λ d. stays_drained terms st run d acts.act acts.allowed;
     }
 
@@ -51,6 +53,7 @@ went-unseen terms w v s closed st run shows unseen = record {
   state = st;
   run = run;
   shows = unseen_shows w v s closed st unseen shows;
+  leads = record { acts = []; legal = tt; there = refl };
   drained = λ d. d;
 }
 
@@ -59,6 +62,7 @@ went-on terms v u s closed st went further = record {
   state = further.state;
   run = further.run;
   shows = further.shows;
+  leads = joins terms st went.state further.state went.leads further.leads;
   drained = λ d. further.drained (went.drained d);
 }
 

@@ -22,6 +22,7 @@ use Rattle.net_ways.specs.Standing.{ArePlaced, HaveWays}
 use Rattle.net_ways.specs.Ways.{HasQueues}
 use Rattle.net_streams.specs.Shows.{terms_of}
 use Rattle.net_flows.specs.Closing.{EventsKeepEnds, KeepsEnds}
+use Rattle.net_flows.specs.Going.{EachGoesOn, EventsGoOn, UnseenGoesOn}
 use Rattle.net_flows.specs.Flows.{IsFlow, IsSteady, SteadyStays, UnseenFlows}
 use Rattle.net_flows.specs.Forms.{HasForm, Tells}
 use Rattle.net_flows.specs.Lasting.{IsSound}
@@ -84,6 +85,16 @@ pub events_keep_ends : EventsKeepEnds
 events_keep_ends w e steady ways placed may_it =
     let steps = steps-of w e steady ways placed may_it in
     ends-kept w (after w e) (shape_stays w (Happens e)).plan steps.flows steps.used_up steady.flows
+
+goes-on : (w v : State) → FlowsTo w v → EachGoesOn w v
+goes-on w v flows s there st run shows =
+    let went = flows s there st run shows in record { state = went.state; leads = went.leads; shows = went.shows }
+
+pub events_go_on : EventsGoOn
+events_go_on w e steady ways placed may_it = goes-on w (after w e) (steps-of w e steady ways placed may_it).flows
+
+pub unseen_goes_on : UnseenGoesOn
+unseen_goes_on w v unseen = goes-on w v (none-flows (is_closed (front w)) w v (λ s there. unseen s))
 
 pub unseen_flows : UnseenFlows
 unseen_flows w v as_many unseen each =

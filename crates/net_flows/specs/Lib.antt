@@ -3,3 +3,4 @@ pub mod Forms
 pub mod Flows
 pub mod Closing
 pub mod Beginning
+pub mod Going

@@ -2,6 +2,7 @@
 ghost use Rattle.net_flows.specs.Beginning.{BegunIsSteady, MovesKeepSteady, SteadyIsReady};
 ghost use Rattle.net_flows.specs.Closing.{ClosedStays, DrainedStays, EventsKeepEnds, FurtherIsFinished};
 ghost use Rattle.net_flows.specs.Flows.{SteadyStays, UnseenFlows};
+ghost use Rattle.net_flows.specs.Going.{EventsGoOn, UnseenGoesOn};
 
 /// A producer that is finished stays finished, and a drained stream stays drained, as long as what a Tx used up stays
 /// used up and no drained stream has more to do. Each event keeps that.
@@ -18,6 +19,12 @@ pub fn each_stream_stays_a_run()
     ensures events { SteadyStays }
     ensures moves { MovesKeepSteady }
     ensures unseen { UnseenFlows }
+{}
+
+/// At each event each stream goes on by acts of the machine of one stream.
+pub fn each_stream_goes_on_by_acts()
+    ensures events { EventsGoOn }
+    ensures unseen { UnseenGoesOn }
 {}
 
 /// A run begins with all that lasts: each of its streams is a run, in which its Tx made what it has.

@@ -5,6 +5,6 @@
 mod law;
 
 pub use law::{
-    each_stream_begins_as_a_run, each_stream_stays_a_run, what_is_finished_stays_finished,
-    what_waits_may_enter,
+    each_stream_begins_as_a_run, each_stream_goes_on_by_acts, each_stream_stays_a_run,
+    what_is_finished_stays_finished, what_waits_may_enter,
 };
