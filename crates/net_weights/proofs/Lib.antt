@@ -1,0 +1,14 @@
+pub mod Sums
+pub mod Working
+pub mod Streaming
+pub mod Hopping
+pub mod Acting
+pub mod Potentials
+pub mod Leftovers
+pub mod Calming
+pub mod Entering
+pub mod Falling
+pub mod Events
+pub mod Moving
+pub mod Journals
+pub mod Laws

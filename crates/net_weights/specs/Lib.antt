@@ -1,0 +1,4 @@
+pub mod Sums
+pub mod Work
+pub mod Charge
+pub mod Journals
