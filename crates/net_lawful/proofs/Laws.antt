@@ -1,11 +1,14 @@
 -- The laws of specs/, with their proofs, for the proofs of other crates.
 use Rattle.net_flows.proofs.Laws.{begun_is_steady, steady_stays, unseen_flows}
 use Rattle.net_lawful.specs.Laws as law
+use Rattle.net_lawful.specs.Walking as walking
 use Rattle.net_lawful.proofs.Beginning.{begun-lawful, built-lawful}
+use Rattle.net_lawful.proofs.Calm.{walked-stays}
 use Rattle.net_lawful.proofs.Nodes.{can-perform}
 use Rattle.net_lawful.proofs.Peaks.{peak-follows}
 use Rattle.net_lawful.proofs.Planned as plans
 use Rattle.net_lawful.proofs.Staying.{all-lawful, lawful-stays}
+use Rattle.net_lawful.proofs.Unseen.{stilled-unseen}
 
 pub built_is_lawful : law.BuiltIsLawful
 built_is_lawful = built-lawful
@@ -18,6 +21,12 @@ lawful_stays = lawful-stays steady_stays unseen_flows
 
 pub all_are_lawful : law.AllAreLawful
 all_are_lawful = all-lawful steady_stays unseen_flows
+
+pub events_ask_nothing : walking.EventsAskNothing
+events_ask_nothing = walked-stays
+
+pub stilled_is_unseen : walking.StilledIsUnseen
+stilled_is_unseen = stilled-unseen
 
 pub plans_fit : law.PlansFit
 plans_fit tree plan sound = plans.planned tree plan sound

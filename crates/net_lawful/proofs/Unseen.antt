@@ -34,7 +34,7 @@ use Rattle.net_ways.proofs.Laws.{hops_unseen, joins_unseen, losses_unseen, messa
 use Rattle.net_flows.specs.Flows.{IsSteady, UnseenFlows}
 use Rattle.net_flows.specs.Forms.{HasForm, Tells}
 use Rattle.net_flows.specs.Lasting.{IsSound}
-use Rattle.net_lawful.specs.Walking.{AreStilled, IsNoStreams}
+use Rattle.net_lawful.specs.Walking.{AreStilled, IsNoStreams, StilledIsUnseen}
 use Rattle.net_lawful.proofs.Entering.{Puts, entries-stay}
 use Rattle.net_lawful.proofs.Messages.{answer-is, first-true, request-is}
 use Rattle.net_lawful.proofs.Stilling.{stilled-same}
@@ -214,6 +214,9 @@ moves-unseen w (Command s op) t moves steady stilled = absurd moves
 moves-unseen w (Lose q) t moves steady stilled = lose-unseen w q t (queue_at w.queues q) refl stilled
 moves-unseen w (Reply x) t moves steady stilled = replies-unseen w x t (node_at w x).pending refl steady
 moves-unseen w (Ask x) t moves steady stilled = asks-unseen w x t (node_at w x).requests refl steady
+
+pub stilled-unseen : StilledIsUnseen
+stilled-unseen w e steady stilled may_it s = moves-unseen w e s (only-moves w e stilled may_it) steady stilled
 
 -- ---- so only messages are queued then, and all stays as steady as it was
 

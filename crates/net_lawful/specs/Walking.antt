@@ -1,16 +1,19 @@
 -- Before a management packet is asked tables lead; from then on no stream has anything under way or to do.
-use Rattle.std.specs.Prelude.{◌≡◌, ℕ, false, Some}
+use Rattle.std.specs.Prelude.{◌≡◌, ℕ, false, IsTrue, Some}
 use Rattle.std.specs.List.{AllByRecursion}
 use Rattle.chdr_packets.specs.declared.packet.Packet.{Packet}
 use Rattle.chdr_words.specs.declared.command.CmdOp.{CmdOp}
 use Rattle.net_topology.specs.Links.{link_at}
+use Rattle.net_machine.specs.declared.event.Event.{Event}
 use Rattle.net_machine.specs.declared.event.Event.TheVariants.{Feed, Seen}
 use Rattle.net_machine.specs.Conditions.{can_order, can_send, enabled}
+use Rattle.net_machine.specs.Effects.{after}
 use Rattle.net_machine.specs.Front.{front, front_at}
 use Rattle.net_machine.specs.Plans.{plan_at}
 use Rattle.net_machine.specs.State.{Message, State, Tag, node_at}
-use Rattle.net_ways.specs.Hops.{GoesByTable}
+use Rattle.net_ways.specs.Hops.{GoesByTable, IsUnseen}
 use Rattle.net_ways.specs.Standing.{ArePlaced, HaveWays, IsMessage}
+use Rattle.net_flows.specs.Flows.{IsSteady}
 use Rattle.net_lawful.specs.Messages.{EachEntry}
 
 -- a packet goes by tables, and so changes none
@@ -38,3 +41,11 @@ pub record AreStilled (w : State) : Type 0 where
   pub reports : (s : ℕ) → (front_at (front w) s).due ≡ false
   pub sees : (s n : ℕ) → enabled w (Seen s n) ≡ false
   pub feeds : (b i : ℕ) → enabled w (Feed b i) ≡ false
+
+-- No event asks a management packet.
+abbrev pub EventsAskNothing : Type 0
+EventsAskNothing = (w : State) (e : Event) → (after w e).walked ≡ w.walked
+
+-- Once one was asked, no stream sees what happens.
+abbrev pub StilledIsUnseen : Type 0
+StilledIsUnseen = (w : State) (e : Event) → IsSteady w → AreStilled w → IsTrue (enabled w e) → (s : ℕ) → IsUnseen w (after w e) s

@@ -1,5 +1,6 @@
 //! Each law is a function that does nothing and promises it.
 ghost use Rattle.net_lawful.specs.Laws.{AllAreLawful, BegunIsLawful, BlocksGive, BlocksTake, BuiltIsLawful, LawfulStays, NoRxAtEndpoints, NodesCanPerform, PeaksFollow, PlansFit};
+ghost use Rattle.net_lawful.specs.Walking.{EventsAskNothing, StilledIsUnseen};
 
 /// A network over a tree is lawful as it is built, and as a run begins at rest.
 pub fn networks_begin_lawful()
@@ -11,6 +12,12 @@ pub fn networks_begin_lawful()
 pub fn moves_leave_networks_lawful()
     ensures each { LawfulStays }
     ensures all { AllAreLawful }
+{}
+
+/// No event asks a management packet, and once one was asked no stream sees what happens.
+pub fn streams_stand_still_once_asked()
+    ensures asks { EventsAskNothing }
+    ensures unseen { StilledIsUnseen }
 {}
 
 /// In a plan that can run each stream joins two blocks, at an output and an input of its own, and no Rx

@@ -7,5 +7,5 @@ mod law;
 
 pub use law::{
     moves_leave_networks_lawful, networks_begin_lawful, nodes_can_perform, peaks_follow,
-    streams_join_blocks,
+    streams_join_blocks, streams_stand_still_once_asked,
 };
