@@ -1,0 +1,21 @@
+//! Each law is a function that does nothing and promises it.
+ghost use Rattle.net_runs.specs.Runs.{LawfulWeightFalls, LegalJournalsEnd, WholeRunsEnd, WholeRunsEndPlain};
+
+/// Each event lowers the weight of a lawful network, so a legal journal has at most as many events as its first state
+/// weighs.
+pub fn legal_journals_end()
+    ensures falls { LawfulWeightFalls }
+    ensures journals { LegalJournalsEnd }
+{}
+
+/// At the end of a whole run a stream that isn't drained is joined to one that lost a packet and doesn't
+/// resynchronise.
+pub fn whole_runs_end_for_a_cause()
+    ensures { WholeRunsEnd }
+{}
+
+/// At the end of a whole run in which nothing was lost the plan tells what each stream carried, its tally but for the
+/// peaks, and each line.
+pub fn whole_runs_without_losses_end_plain()
+    ensures { WholeRunsEndPlain }
+{}
