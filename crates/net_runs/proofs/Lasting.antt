@@ -12,7 +12,7 @@ use Rattle.net_machine.specs.declared.event.Event.TheVariants.{Enter, Hop, Seen,
 use Rattle.net_machine.specs.declared.plan.BlockPlan.{BlockPlan}
 use Rattle.net_machine.specs.declared.plan.RunPlan.{RunPlan}
 use Rattle.net_machine.specs.declared.plan.StreamPlan.{StreamPlan}
-use Rattle.net_machine.specs.Begin.{begun, opened}
+use Rattle.net_machine.specs.Begin.{opened}
 use Rattle.net_machine.specs.Blocks.{kept_at}
 use Rattle.net_machine.specs.Effects.{after, answers_host, arrives, asks_first, enters, enters_over, feeds, feeds_from, gives_out, hears_status, hops, leaves, on_any_stream, on_node, on_stream, operates, passes, pends, replies_first}
 use Rattle.net_machine.specs.Moves.{after_all, after_journal}
@@ -24,7 +24,7 @@ use Rattle.net_machine.specs.State.{Entry, Node, State, Stream, Tag, idle, node_
 use Rattle.net_machine.specs.Streams.{counts_in, gets, gets_order, gets_status, readies, sends_first, sends_order, sends_status, taken_to, told_in}
 use Rattle.net_topology.specs.Links.{link_at}
 use Rattle.net_lawful.proofs.Laws.{events_ask_nothing}
-use Rattle.net_runs.specs.Runs.{LosesNothing}
+use Rattle.net_runs.specs.Runs.{BeginsWithoutLosses, LosesNothing, OnlyLosesCount}
 
 -- each stream counts the same packets as lost
 abbrev pub KeepLost : State → State → Type 0
@@ -113,7 +113,7 @@ lost-replies : (x : ℕ) (packets : List Packet) (w : State) → KeepLost w (rep
 lost-replies x [] w = λ t. refl
 lost-replies x (p ∷ rest) w = lost-leaves x (λ (n : Node). record n { pending = rest }) (route_from w.tree w.nodes x p.dst) _ _ p _ (record w { answers = w.answers + 1 })
 
-event-lost : (w : State) (e : Event) → LosesNothing e → KeepLost w (after w e)
+pub event-lost : OnlyLosesCount
 unfolding after
 event-lost w (Enter s) none = lost-enters s (stream_at w s).ready w
 event-lost w (Hop q) none = lost-hops q (queue_at w.queues q) w
@@ -141,5 +141,5 @@ opened-lost plan [] s = refl
 opened-lost plan (stream ∷ streams) zero = refl
 opened-lost plan (stream ∷ streams) (suc s) = opened-lost plan streams s
 
-pub begun-lost : (plan : RunPlan) (w : State) (s : ℕ) → (stream_at (begun plan w) s).lost ≡ []
+pub begun-lost : BeginsWithoutLosses
 begun-lost plan w s = opened-lost plan plan.streams s

@@ -1,5 +1,6 @@
 -- The laws of whole runs, with their proofs, for the proofs of other crates.
-use Rattle.net_runs.specs.Runs.{LawfulWeightFalls, LegalJournalsEnd, WholeRunsEnd, WholeRunsEndPlain}
+use Rattle.net_runs.specs.Runs.{BeginsWithoutLosses, LawfulWeightFalls, LegalJournalsEnd, OnlyLosesCount, WholeRunsEnd, WholeRunsEndPlain}
+use Rattle.net_runs.proofs.Lasting.{begun-lost, event-lost}
 use Rattle.net_runs.proofs.Runs.{lawful-falls, legal-end, whole-end, whole-end_plain}
 
 pub lawful_weight_falls : LawfulWeightFalls
@@ -7,6 +8,12 @@ lawful_weight_falls = lawful-falls
 
 pub legal_journals_end : LegalJournalsEnd
 legal_journals_end = legal-end
+
+pub begins_without_losses : BeginsWithoutLosses
+begins_without_losses = begun-lost
+
+pub only_loses_count : OnlyLosesCount
+only_loses_count = event-lost
 
 pub whole_runs_end : WholeRunsEnd
 whole_runs_end = whole-end

@@ -1,5 +1,5 @@
 -- Whole runs of a plan: they end, and how.
-use Rattle.std.specs.Prelude.{◌≡◌, ◌≢◌, ◌<◌, ◌≤◌, ℕ, IsTrue, List, length}
+use Rattle.std.specs.Prelude.{◌≡◌, ◌≢◌, ◌<◌, ◌≤◌, ℕ, IsTrue, List, [], length}
 use Rattle.std.specs.List.{AllByRecursion}
 use Rattle.block_library.specs.Lines.{line_of}
 use Rattle.net_machine.specs.declared.event.Event.{Event}
@@ -12,7 +12,7 @@ use Rattle.net_machine.specs.Conditions.{enabled}
 use Rattle.net_machine.specs.Effects.{after}
 use Rattle.net_machine.specs.Moves.{IsAtRest, IsLegal, IsWhole, after_journal, moves_of}
 use Rattle.net_machine.specs.Plans.{block_at}
-use Rattle.net_machine.specs.State.{State}
+use Rattle.net_machine.specs.State.{State, stream_at}
 use Rattle.net_machine.specs.Tallies.{end_of, line_at}
 use Rattle.net_lawful.specs.Lawful.{Lawful}
 use Rattle.net_weights.specs.Charge.{weight}
@@ -51,6 +51,13 @@ LosesNothing (Command s op) = Unit {0}
 LosesNothing (Lose q) = ⊥
 LosesNothing (Reply x) = Unit {0}
 LosesNothing (Ask x) = Unit {0}
+
+-- As a run begins no packet is lost, and only a Lose counts one as lost.
+abbrev pub BeginsWithoutLosses : Type 0
+BeginsWithoutLosses = (plan : RunPlan) (w : State) (s : ℕ) → (stream_at (begun plan w) s).lost ≡ []
+
+abbrev pub OnlyLosesCount : Type 0
+OnlyLosesCount = (w : State) (e : Event) → LosesNothing e → (s : ℕ) → (stream_at (after w e) s).lost ≡ (stream_at w s).lost
 
 -- what the plan alone tells of a run: what each stream carried, and each line
 pub record IsPlainRun (plan : RunPlan) (end : State) : Type 0 where

@@ -1,11 +1,17 @@
 //! Each law is a function that does nothing and promises it.
-ghost use Rattle.net_runs.specs.Runs.{LawfulWeightFalls, LegalJournalsEnd, WholeRunsEnd, WholeRunsEndPlain};
+ghost use Rattle.net_runs.specs.Runs.{BeginsWithoutLosses, LawfulWeightFalls, LegalJournalsEnd, OnlyLosesCount, WholeRunsEnd, WholeRunsEndPlain};
 
 /// Each event lowers the weight of a lawful network, so a legal journal has at most as many events as its first state
 /// weighs.
 pub fn legal_journals_end()
     ensures falls { LawfulWeightFalls }
     ensures journals { LegalJournalsEnd }
+{}
+
+/// As a run begins no packet is lost, and only a Lose counts one as lost.
+pub fn only_a_lose_loses_packets()
+    ensures begun { BeginsWithoutLosses }
+    ensures events { OnlyLosesCount }
 {}
 
 /// At the end of a whole run a stream that isn't drained is joined to one that lost a packet and doesn't
