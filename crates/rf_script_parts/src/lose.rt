@@ -27,8 +27,8 @@ pub enum Sorts {
 /// The faults that were read of a list.
 #[derive(Debug, Drop)]
 pub struct Losses {
-    sorts: Sorts,
-    list: Faults,
+    pub sorts: Sorts,
+    pub list: Faults,
 }
 
 /// The sort that an entry begins with: none where the word isn't listed.

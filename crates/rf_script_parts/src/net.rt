@@ -87,9 +87,9 @@ fn node_name(
 
 /// A node, with its name if it has one.
 #[derive(Debug, Drop)]
-struct ReadNode {
-    plan: NodePlan,
-    named: Option<Named>,
+pub struct ReadNode {
+    pub plan: NodePlan,
+    pub named: Option<Named>,
 }
 
 #[tactic(auto, unfolding(crate::specs::Net::node_word))]
@@ -236,7 +236,7 @@ fn node(alloc: Global, version: u8, names: &[Named], entry: &Value) -> Result<Re
 /// The nodes that were read of a list, and their names.
 #[derive(Debug, Drop)]
 pub struct Nodes {
-    version: u8,
+    pub version: u8,
     pub list: NodeList,
     pub names: Names,
 }
@@ -319,8 +319,8 @@ fn link(entry: &Value) -> Result<LinkPlan, Wrong>
 
 /// The links that were read of a list.
 #[derive(Debug, Drop)]
-struct LinksSoFar {
-    list: LinkList,
+pub struct LinksSoFar {
+    pub list: LinkList,
 }
 
 impl Entries for LinksSoFar {

@@ -24,8 +24,8 @@ pub fn operation(told: Field, value: &Value) -> Result<Option<CtrlOp>, Wrong>
 
 /// A list of which each item is looked at for its type.
 #[derive(Debug, Drop)]
-struct Wholes {
-    told: Field,
+pub struct Wholes {
+    pub told: Field,
 }
 
 impl Entries for Wholes {
@@ -41,9 +41,9 @@ impl Entries for Wholes {
 
 /// The words that were read of a list.
 #[derive(Debug, Drop)]
-struct WordsSoFar {
-    range: Number,
-    words: Words15,
+pub struct WordsSoFar {
+    pub range: Number,
+    pub words: Words15,
 }
 
 impl Entries for WordsSoFar {
