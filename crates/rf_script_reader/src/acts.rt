@@ -73,12 +73,12 @@ fn operation_at(entry: &Value) -> Result<Option<CtrlOp>, Wrong>
 
 /// What the control request of an act has besides its words.
 #[derive(Clone, Copy, Debug)]
-pub(crate) struct Parts {
-    pub(crate) due: Pair,
-    pub(crate) to: u64,
-    pub(crate) port: u64,
-    pub(crate) op: Option<CtrlOp>,
-    pub(crate) addr: u64,
+pub struct Parts {
+    pub due: Pair,
+    pub to: u64,
+    pub port: u64,
+    pub op: Option<CtrlOp>,
+    pub addr: u64,
 }
 
 /// The parts of a control act by their types.
@@ -212,9 +212,9 @@ fn act(alloc: Global, host: Epid, number: u8, entry: &Value) -> Result<Act, Wron
 
 /// The acts that were read of a list.
 #[derive(Debug, Drop)]
-struct ActsSoFar {
-    host: Epid,
-    list: Acts,
+pub struct ActsSoFar {
+    pub host: Epid,
+    pub list: Acts,
 }
 
 impl Entries for ActsSoFar {

@@ -63,9 +63,9 @@ fn verb(version: u8, command: &Value) -> Result<Verb, Wrong>
 
 /// What was read of a script so far: the commands, and the names that the next one may use.
 #[derive(Debug, Drop)]
-pub(crate) struct SoFar {
-    pub(crate) scope: Scope,
-    pub(crate) list: ScriptCommands,
+pub struct SoFar {
+    pub scope: Scope,
+    pub list: ScriptCommands,
 }
 
 fn unnamed(command: ScriptCommand) -> ReadCommand
