@@ -1,5 +1,6 @@
 //! A script as bytes.
 ghost use Rattle.std.specs.Prelude.{◌≡◌, Some, IfOk};
+ghost use Rattle.std.specs.Str.{IsUtf8};
 ghost use Rattle.rf_script_types.specs.CommandText.{script_text};
 ghost use Rattle.serde_json.specs.Read.{read};
 ghost use Rattle.serde_json.specs.Written.{compact_text};
@@ -28,8 +29,9 @@ fn script_value(alloc: Global, script: &Script) -> Result<Value, Memory>
 #[tactic(auto, using(crate::proofs::PlainLemmas::no_floats, crate::proofs::PlainLemmas::not_deep))]
 pub fn encode_script(alloc: Global, script: &Script) -> Result<Bytes, Memory>
     ensures canonical { IfOk result (λ text. text ≡ compact_text (script_text script.now)) }
+    ensures utf8 { IfOk result (λ text. IsUtf8 text) }
     ensures reads { IfOk result (λ text. read text ≡ Some (script_text script.now)) }
 {
-    let text = script_value(alloc, script)?.to_string(alloc)?;
-    Ok(Bytes::from_vec(text.into_bytes()))
+    let text = script_value(alloc, script)?.to_vec(alloc)?;
+    Ok(Bytes::from_vec(text))
 }
