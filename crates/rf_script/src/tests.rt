@@ -29,7 +29,7 @@ const NUMBERED: &str = "{\"rfnoc\":2,\"commands\":[
 {\"do\":\"discover\",\"host\":9}]}";
 
 /// What is said of the bytes: the fault, or that they are a script.
-fn told(alloc: Global, bytes: &[u8]) -> Result<String, Fail> {
+pub(crate) fn told(alloc: Global, bytes: &[u8]) -> Result<String, Fail> {
     match read_script(alloc, bytes) {
         Ok(_) => Ok(String::from_str(alloc, "ok")?),
         Err(fault) => Ok(format!(in alloc; "{fault}")?),
@@ -37,13 +37,13 @@ fn told(alloc: Global, bytes: &[u8]) -> Result<String, Fail> {
 }
 
 /// What is said of a script whose commands are these.
-fn told_of(alloc: Global, version: u8, commands: &str) -> Result<String, Fail> {
+pub(crate) fn told_of(alloc: Global, version: u8, commands: &str) -> Result<String, Fail> {
     let text = format!(in alloc; "{{\"rfnoc\":{version},\"commands\":[{commands}]}}")?;
     told(alloc, text.as_bytes())
 }
 
 /// The item `count` times, with commas between.
-fn listed(alloc: Global, item: &str, count: u32) -> Result<String, Fail> {
+pub(crate) fn listed(alloc: Global, item: &str, count: u32) -> Result<String, Fail> {
     let mut text = String::from_str(alloc, item)?;
     for _ in 1..count {
         text.push(',')?;
@@ -95,39 +95,6 @@ fn a_name_stands_for_the_epid_of_its_node(rt: HostRuntime) -> Result<(), Fail> {
 }
 
 #[test]
-fn the_first_fault_of_a_command_is_told(rt: HostRuntime) -> Result<(), Fail> {
-    for (commands, wanted) in [
-        ("{\"do\":\"unload\"}", "port why Missing"),
-        ("{\"do\":\"unload\",\"port\":\"0\"}", "port why Type"),
-        ("{\"do\":\"unload\",\"port\":16}", "port why Range"),
-        ("{\"do\":\"commit\",\"x\":0}", "x why Unknown"),
-        (
-            "{\"do\":\"connect\",\"from\":[0,0],\"to\":[1,0],\"freq\":[64,33]}",
-            "freq why Flow",
-        ),
-        ("{\"do\":\"discover\",\"host\":\"a\"}", "host why Type"),
-    ] {
-        let line = format!(in rt.alloc(); "fault Form command 0 field {wanted}")?;
-        assert_eq!(rt;
-            told_of(rt.alloc(), 1, commands)?.as_str(),
-            line.as_str(),
-            "{commands}"
-        );
-    }
-    Ok(())
-}
-
-#[test]
-fn a_name_that_no_node_has_is_told(rt: HostRuntime) -> Result<(), Fail> {
-    let commands = "{\"do\":\"commit\"},{\"do\":\"discover\",\"host\":\"a\"}";
-    assert_eq!(rt;
-        told_of(rt.alloc(), 2, commands)?.as_str(),
-        "fault Form command 1 field host why NoName"
-    );
-    Ok(())
-}
-
-#[test]
 fn a_long_or_deep_text_is_no_script(rt: HostRuntime) -> Result<(), Fail> {
     let blank = vec![in rt.alloc(); b' '; SCRIPT_LIMIT + 1]?;
     assert_eq!(rt;
@@ -139,21 +106,5 @@ fn a_long_or_deep_text_is_no_script(rt: HostRuntime) -> Result<(), Fail> {
         deep.push(b']')?;
     }
     assert_eq!(rt; told(rt.alloc(), deep.as_slice())?.as_str(), "fault Syntax");
-    Ok(())
-}
-
-#[test]
-fn a_list_has_its_limit(rt: HostRuntime) -> Result<(), Fail> {
-    let commands = listed(rt.alloc(), "{}", 257)?;
-    assert_eq!(rt;
-        told_of(rt.alloc(), 1, commands.as_str())?.as_str(),
-        "fault Form command - field commands why Range"
-    );
-    let lose = listed(rt.alloc(), "[\"data\",0,0]", 65)?;
-    let run = format!(in rt.alloc(); "{{\"do\":\"run\",\"lose\":[{lose}]}}")?;
-    assert_eq!(rt;
-        told_of(rt.alloc(), 1, run.as_str())?.as_str(),
-        "fault Form command 0 field lose why Range"
-    );
     Ok(())
 }
