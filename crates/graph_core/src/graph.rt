@@ -2,6 +2,7 @@ ghost use Rattle.std.specs.Prelude.{◌≡◌, ◌<◌, ◌↔◌, [], true, fal
 ghost use Rattle.block_library.specs.Blocks.{FitsKind};
 ghost use Rattle.graph_core.specs.Derivation.{Settles};
 ghost use Rattle.graph_core.specs.Pairs.{Lacks, value_of};
+ghost use Rattle.graph_core.specs.Refusals.{IsRefusal};
 ghost use Rattle.graph_core.specs.State.{HasBadPort, HasCycle, HasNoPort, HasTakenPort, IsGraph};
 ghost use Rattle.graph_core.specs.State.{state, with_edge, with_kind, with_user, with_values};
 
@@ -102,6 +103,13 @@ impl Graph {
         self.users.put(at, value)?;
         self.is_committed = false;
         Ok(())
+    }
+
+    /// Why an edge would be refused; nothing if it can be added.
+    pub fn refusal(&self, from: PortAt, to: PortAt) -> Option<ConnectFault>
+        ensures { IsRefusal self.now.diagram.kinds self.now.diagram.edges from to result }
+    {
+        refusal(self.kinds.as_slice(), self.edges.as_slice(), from, to)
     }
 
     /// The kinds of the blocks.
