@@ -1,21 +1,17 @@
 -- The forms of packets at the ports of a settled graph: they are in their ranges, and one at both ends of an edge.
-use Rattle.std.proofs.Common.{◌≡◌, ◌≢◌, ◌∙◌, ℕ, zero, suc, ◌+◌, ◌<◌, ◌≤◌, ⊎_elim, refl, sym, ap, subst, List, [], ◌∷◌, true, length, get_or, map, arith, rules, Contains, Option, Some, None, unwrap_or}
-use Rattle.std.specs.Prelude.{IfSome, IsSome}
+use Rattle.std.proofs.Common.{◌≡◌, ◌≢◌, ◌∙◌, ℕ, ◌<◌, ◌≤◌, ⊎_elim, refl, sym, ap, subst, List, true, length, arith, rules, Contains, Option, Some, None, unwrap_or}
+use Rattle.std.specs.Prelude.{IfSome}
 use Rattle.std.specs.Map.{keys_of, lookup}
 use Rattle.std.proofs.lemmas.List.{get_or-map, length-map}
 use Rattle.std.proofs.lemmas.Map.Views.{Contains-from_lookup, IsSome-lookup_from_Contains}
-use Rattle.block_library.specs.Blocks.{inputs, outputs}
 use Rattle.block_library.specs.declared.kind.BlockKind.{BlockKind}
 use Rattle.block_library.specs.declared.kind.BlockKind.TheVariants.{Tx, Rx, Fifo, Split, Keep, Repeat, Replay, Switch, Sink}
-use Rattle.graph_core.specs.Derivation.{Diagram, Settles, property_at}
+use Rattle.graph_core.specs.Derivation.{Diagram, Settles}
 use Rattle.graph_core.specs.Edges.{IsJoined}
 use Rattle.graph_core.specs.Pairs.{Pair, is_same, value_of}
 use Rattle.graph_core.specs.Ports.{IsProperty, port_count, ports_at}
-use Rattle.graph_core.specs.State.{IsDiagram}
 use Rattle.graph_core.specs.contracts.place.PropAtEq.TheImpl.Laws.{laws-law}
-use Rattle.graph_core.specs.contracts.place.PropAtPartialEq.TheImpl.{eq-value}
 use Rattle.graph_core.specs.declared.place.Edge.{Edge}
-use Rattle.graph_core.specs.declared.place.PortAt.{PortAt}
 use Rattle.graph_core.specs.declared.place.Prop.{Prop}
 use Rattle.graph_core.specs.declared.place.Prop.TheVariants.{Rate, Item, Spp}
 use Rattle.graph_core.specs.declared.place.PropAt.{PropAt}

@@ -1,9 +1,8 @@
 -- A layout stays one of its graph as a block is placed and as two ports are connected.
-use Rattle.std.proofs.Common.{◌≡◌, ◌≢◌, ◌∙◌, ℕ, zero, suc, ◌+◌, ◌<◌, ◌≤◌, ◌^◌, inl, inr, refl, sym, ap, subst, List, [], ◌∷◌, ◌++◌, length, get_or, map, arith, length-append, Option, Some, None, unwrap_or}
+use Rattle.std.proofs.Common.{◌≡◌, ◌∙◌, ℕ, zero, suc, ◌<◌, ◌^◌, inl, inr, refl, sym, ap, subst, List, [], ◌∷◌, ◌++◌, length, get_or, map, arith, Option, Some, None, unwrap_or}
 use Rattle.std.specs.Prelude.{slice_get}
 use Rattle.std.proofs.lemmas.Bool.{cases_lt}
-use Rattle.std.proofs.lemmas.List.{length-map, length_push, map_push}
-use Rattle.std.proofs.lemmas.Option.{same_Some}
+use Rattle.std.proofs.lemmas.List.{length_push, map_push}
 use Rattle.block_library.specs.declared.kind.BlockKind.{BlockKind}
 use Rattle.chdr_words.specs.declared.epid.Epid.{Epid}
 use Rattle.graph_core.specs.Derivation.{Diagram}
@@ -16,14 +15,31 @@ use Rattle.net_machine.specs.declared.plan.StreamPlan.{StreamPlan}
 use Rattle.net_topology.specs.declared.plan.Plan.{Plan}
 use Rattle.stream_endpoint.specs.Flow.{IsValid}
 use Rattle.run_plans.specs.Changes.{stream_between, with_block, with_stream}
-use Rattle.run_plans.specs.Layouts.{FitsPlaced, FitsTerms, GoesAlong, IsLayout, StandIn, StandsIn, edge_at, in_at, laid_at, no_edge, no_placed, out_at, placed_at}
-use Rattle.run_plans.specs.Refusals.{CanConnect, IsFree, IsLoop}
+use Rattle.run_plans.specs.Layouts.{FitsPlaced, FitsTerms, GoesAlong, IsLayout, StandIn, StandsIn, edge_at, in_at, laid_at, no_edge, no_placed, out_at}
+use Rattle.run_plans.specs.Refusals.{CanConnect, IsFree}
 use Rattle.run_plans.specs.declared.connect.Terms.{Terms}
 use Rattle.run_plans.specs.declared.layout.Layout.{Layout}
 use Rattle.run_plans.specs.declared.layout.PlacedBlock.{PlacedBlock}
 use Rattle.run_plans.proofs.Ends.{apart_kept, end_kept}
 use Rattle.run_plans.proofs.Lists.{Pushed, get_there, pushed}
 use Rattle.run_plans.proofs.Lists.Pushed.{old, last, past}
+
+no_end : (e : Epid) {P : Type 0} → ◌≡◌ {A = Option Epid} None (Some e) → P
+no_end e is = absurd cc
+
+-- nothing is a layout of a graph of nothing
+pub new_layout : IsLayout (record { kinds = []; edges = []; users = [] }) (record { blocks = []; streams = [] })
+new_layout = record {
+  kinds = refl;
+  blocks = λ b lt. absurd (omega arith);
+  inputs = λ a b i j e p q. no_end e p;
+  outputs = λ a b i j e p q. no_end e p;
+  few = omega arith;
+  edges = refl;
+  along = λ s lt. absurd (omega arith);
+  terms = λ s lt. absurd (omega arith);
+  users = λ at value has. let lt = has.1 in absurd (omega arith);
+}
 
 -- each place of a longer list has what those of the list have, if the new item has it too
 each_push : {A : Type 0} (P : A → Type 0) (xs : List A) (x d : A) → ((k : ℕ) → k < length xs → P (get_or xs k d)) → P x

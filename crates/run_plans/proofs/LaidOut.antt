@@ -1,6 +1,5 @@
 -- The plan that a layout makes of a settled graph has all that a run needs but what is tested as it begins.
-use Rattle.std.proofs.Common.{◌≡◌, ◌≢◌, ◌∙◌, ℕ, zero, suc, ◌+◌, ◌<◌, ◌≤◌, ◌⊎◌, inl, inr, refl, sym, ap, subst, List, [], ◌∷◌, true, false, eqb, eq-eqb, length, get_or, map, arith, Contains, Option, Some, None}
-use Rattle.std.specs.Prelude.{IsSome, slice_get}
+use Rattle.std.proofs.Common.{◌≡◌, ◌≢◌, ◌∙◌, ℕ, ◌<◌, ◌≤◌, ◌⊎◌, inl, inr, refl, sym, ap, subst, List, true, false, eqb, eq-eqb, length, get_or, map, arith, Contains, Some}
 use Rattle.std.specs.List.{IsDistinct}
 use Rattle.std.proofs.lemmas.Bool.{cases_lt}
 use Rattle.std.proofs.lemmas.List.{get_or_past, get_or-map, length-map}
@@ -19,8 +18,7 @@ use Rattle.graph_core.specs.declared.place.Edge.{Edge}
 use Rattle.graph_core.specs.declared.place.PortAt.{PortAt}
 use Rattle.graph_core.specs.declared.place.Prop.{Prop}
 use Rattle.graph_core.specs.declared.place.Prop.TheVariants.{Rate, Item, Spp}
-use Rattle.graph_core.specs.declared.place.Side.{Side}
-use Rattle.net_machine.specs.CanBegin.{AreApart, EachBlock, EachStream, FitsBlock, FitsRun, HaveOneForm, HaveOwnEnds, KeepsForm, NeverReturns, Reaches, StandsAt, from_of, input_at, output_at, to_of}
+use Rattle.net_machine.specs.CanBegin.{AreApart, EachBlock, EachStream, FitsBlock, HaveOneForm, HaveOwnEnds, KeepsForm, NeverReturns, Reaches, StandsAt, from_of, input_at, output_at, to_of}
 use Rattle.net_machine.specs.CanBegin.Reaches.{here, along}
 use Rattle.net_machine.specs.Plans.{block_at, consumer_of, no_block, no_epid, no_stream, plan_at, producer_of}
 use Rattle.net_machine.specs.declared.plan.BlockPlan.{BlockPlan}
@@ -28,7 +26,7 @@ use Rattle.net_machine.specs.declared.plan.RunPlan.{RunPlan}
 use Rattle.net_machine.specs.declared.plan.StreamPlan.{StreamPlan}
 use Rattle.net_topology.specs.declared.plan.Plan.{Plan}
 use Rattle.stream_endpoint.specs.declared.fault.Fault.{Fault}
-use Rattle.run_plans.specs.Layouts.{FitsPlaced, GoesAlong, IsLayout, StandIn, StandsIn, edge_at, in_at, laid_at, no_edge, no_placed, out_at, placed_at}
+use Rattle.run_plans.specs.Layouts.{IsLayout, StandIn, edge_at, in_at, no_edge, no_placed, out_at, placed_at}
 use Rattle.run_plans.specs.Planned.{first_side, plan_of, planned_at}
 use Rattle.run_plans.specs.RunRefusals.{IsLaidOut}
 use Rattle.run_plans.specs.declared.layout.Layout.{Layout}

@@ -1,12 +1,12 @@
 -- A layout stays one of its graph as the user sets a value that its property may have.
-use Rattle.std.proofs.Common.{◌≡◌, ◌∙◌, ℕ, zero, suc, ◌<◌, refl, sym, ap, subst, List, [], ◌∷◌, Bool, true, false, cond, length, get_or, arith, rules, Contains, Result, Ok, Err}
+use Rattle.std.proofs.Common.{◌≡◌, ℕ, zero, suc, ◌<◌, refl, subst, List, [], ◌∷◌, Bool, true, false, cond, length, get_or, arith, rules, Contains, Result, Ok, Err}
 use Rattle.std.specs.Prelude.{OnErr, OnOk}
 use Rattle.graph_core.specs.Derivation.{Diagram}
 use Rattle.graph_core.specs.Pairs.{Pair, is_same, with_value}
 use Rattle.graph_core.specs.State.{State, with_user}
 use Rattle.graph_core.specs.declared.fault.SetFault.{SetFault}
 use Rattle.graph_core.specs.declared.place.PropAt.{PropAt}
-use Rattle.run_plans.specs.Layouts.{FitsValue, HasFittingUsers, IsLayout}
+use Rattle.run_plans.specs.Layouts.{FitsValue, IsLayout}
 use Rattle.run_plans.specs.declared.layout.Layout.{Layout}
 
 same_property : (a b : PropAt) → is_same a b ≡ true → a ≡ b

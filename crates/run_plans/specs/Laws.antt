@@ -1,5 +1,5 @@
 -- What is refused would leave a plan that can't begin, and what isn't refused can.
-use Rattle.std.specs.Prelude.{ℕ, List, None, Some}
+use Rattle.std.specs.Prelude.{List, None, Some}
 use Rattle.graph_core.specs.Derivation.{Diagram, Settles}
 use Rattle.graph_core.specs.Pairs.{Pair}
 use Rattle.graph_core.specs.State.{IsDiagram}

@@ -61,7 +61,7 @@ fn unrouted_stream<T: Reaches>(plan: &RunPlan, tables: &T) -> Option<u16>
 }
 
 /// The first stream with a packet above its flow's `max`.
-fn big_stream(plan: &RunPlan) -> Option<u16>
+pub(crate) fn big_stream(plan: &RunPlan) -> Option<u16>
     requires { length plan.now.streams ≤ 16 }
     ensures { MatchOption result
         (EachStream plan.now (IsSmall plan.now))
@@ -76,7 +76,7 @@ fn big_stream(plan: &RunPlan) -> Option<u16>
 }
 
 /// The first stream that may have too many packets.
-fn long_stream(plan: &RunPlan) -> Option<u16>
+pub(crate) fn long_stream(plan: &RunPlan) -> Option<u16>
     requires { length plan.now.streams ≤ 16 }
     ensures { MatchOption result
         (EachStream plan.now (IsShort plan.now))

@@ -61,12 +61,12 @@ pub struct Layout {
 }
 
 impl Layout {
-    ghost use Rattle.run_plans.specs.Layouts.{end_at};
+    ghost use Rattle.run_plans.specs.Layouts.{IsLayout, end_at};
 
-    /// A layout of nothing.
+    /// A layout of nothing, and so of a graph without blocks.
     pub fn new(alloc: Global) -> Layout
-        ensures blocks { result.blocks ≡ [] }
-        ensures streams { result.streams ≡ [] }
+        ensures value { result ≡ record { blocks = []; streams = [] } }
+        ensures empty { IsLayout (record { kinds = []; edges = []; users = [] }) result }
     {
         Layout {
             blocks: Items::new(alloc),

@@ -1,4 +1,4 @@
-use Rattle.std.proofs.Common.{arith, length}
+use Rattle.std.proofs.Common.{arith}
 use Rattle.std.proofs.lemmas.List.{get_or_read}
 use Rattle.run_plans.specs.Layouts.{no_placed}
 use Rattle.run_plans.proofs.PlanEnds.{blocks-few, plans-more}

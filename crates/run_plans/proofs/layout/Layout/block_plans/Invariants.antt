@@ -1,4 +1,4 @@
-use Rattle.std.proofs.Common.{◌≡◌, length, map}
+use Rattle.std.proofs.Common.{◌≡◌, map}
 use Rattle.std.specs.List.{range_with_len}
 use Rattle.run_plans.specs.Planned.{planned_at}
 use Rattle.run_plans.proofs.layout.Layout.block_plans.Given as goal

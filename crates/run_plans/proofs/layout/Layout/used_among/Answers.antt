@@ -1,7 +1,6 @@
-use Rattle.std.proofs.Common.{◌≡◌, ◌∙◌, ◌<◌, ◌≤◌, ℕ, true, false, inl, inr, sym, subst, length, arith}
+use Rattle.std.proofs.Common.{◌≡◌, ◌∙◌, ℕ, true, false, inl, inr, sym, subst, arith}
 use Rattle.std.proofs.lemmas.Bool.{cases_lt}
 use Rattle.std.proofs.lemmas.Option.{get_or_from_slice_get, slice_get-get_or, slice_get_within}
-use Rattle.chdr_words.specs.declared.epid.Epid.{Epid}
 use Rattle.run_plans.specs.Layouts.{end_at}
 use Rattle.run_plans.specs.Refusals.{IsUnused}
 use Rattle.run_plans.proofs.layout.Layout.used_among.Goals as goal
