@@ -195,7 +195,7 @@ fed-follows p w b i s packet fits now fed_at into within is =
       as_many_streams = simp length-set now.as_many_streams;
       streams = at-set (λ k. IsStreamNow (ends_at_rx w.plan k)) p.streams w.streams idle_now idle _ _ s now.as_many_streams now.streams here;
       as_many_blocks = length-set p.blocks b _ ∙ now.as_many_blocks;
-      blocks = λ c. split-set (λ (it : BlockNow). it ≡ block_now v c (block_at w.plan c)) p.blocks b c _ idle_block (omega (arith, now.as_many_blocks))
+      blocks = λ c. split-set (λ (it : BlockNow). it ≡ block_now v c (block_at w.plan c)) p.blocks b c _ (idle_block c) (omega (arith, now.as_many_blocks))
           (λ e. subst (λ k. block_fed i packet (block_now_at p.blocks b) ≡ block_now v k (block_at w.plan k)) (sym e) same)
           (λ ne. now.blocks c ∙ block-same w v c (block_at w.plan c)
           (sym (fed-elsewhere w s (taken_to ((stream_at w s).taken + 1)) (block_at w.plan c) 0 (apart-of w b i s fits.ends into c 0 (λ e f. ne e))))

@@ -76,13 +76,13 @@ block_now w b block = record {
   line = line_by block.kind b block.item (fed_to w block 0);
 }
 
--- what stands for a block that isn't there
-abbrev pub idle_block : BlockNow
-idle_block = record { kept = kept_of no_block.kind no_block.item (lists [] []); line = empty_line 0 }
+-- what stands for block b where it isn't there
+abbrev pub idle_block : ℕ → BlockNow
+idle_block b = record { kept = kept_of no_block.kind no_block.item (lists [] []); line = empty_line b }
 
 -- block b of these
 abbrev pub block_now_at : List BlockNow → ℕ → BlockNow
-block_now_at blocks b = slice_index_or blocks b idle_block
+block_now_at blocks b = slice_index_or blocks b (idle_block b)
 
 -- the present of a state
 pub record IsNow (p : Present) (w : State) : Type 0 where
