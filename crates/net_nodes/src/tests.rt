@@ -1,4 +1,7 @@
-ghost use Rattle.std.specs.Prelude.{◌≡◌, ◌<◌, length, IfOk};
+ghost use Rattle.std.specs.Prelude.{◌≡◌, ◌≤◌, ◌<◌, length, IfOk};
+ghost use Rattle.net_nodes.specs.Budget.{performed_packet};
+ghost use Rattle.net_nodes.specs.Perform.{performed};
+ghost use Rattle.net_nodes.specs.Switch.{crossbar_site};
 
 use crate::{Adapter, Crossbar, Done, EndNode, asked_answers, reserve_answers};
 use chdr_words::{Epid, EpidList, Hop, Management, MgmtOp};
@@ -81,6 +84,75 @@ fn at_end(alloc: Global, src: u16, ops: &[MgmtOp]) -> Result<Left, Memory> {
 }
 
 const NOTHING: Left = (Done::Dead, None, None, None);
+
+/// Passes a probe on through two crossbars, to each of which it comes by port 1: each performs its
+/// first hop then.
+fn probe(
+    alloc: Global,
+    near: &mut Crossbar,
+    far: &mut Crossbar,
+    m: &mut Management,
+) -> Result<(Done, Done), Memory>
+    requires hops { 3 ≤ length m.old.hops }
+    requires near { 1 < near.old.ports }
+    requires far { 1 < far.old.ports }
+    ensures near { IfOk result (λ done. done.0 ≡ (performed (crossbar_site near.old 1)
+        near.old.table m.old).exit) }
+    ensures far { IfOk result (λ done. done.1 ≡ (performed (crossbar_site far.old 1) far.old.table
+        (performed_packet (crossbar_site near.old 1) near.old.table m.old)).exit) }
+    ensures packet { IfOk result (λ _. m.new ≡ performed_packet (crossbar_site far.old 1)
+        far.old.table (performed_packet (crossbar_site near.old 1) near.old.table m.old)) }
+{
+    let room = reserve_answers(alloc, m, asked_answers(m))?;
+    let by_near = near.perform(m, 1, room);
+    let room = reserve_answers(alloc, m, asked_answers(m))?;
+    let by_far = far.perform(m, 1, room);
+    Ok((by_near, by_far))
+}
+
+/// A packet of three hops: one for each of two crossbars, and the last.
+fn probe_packet(alloc: Global, near: &[MgmtOp], far: &[MgmtOp]) -> Result<Management, Memory>
+    ensures { IfOk result (λ m. length m.hops ≡ 3) }
+{
+    let mut hops = Items::new(alloc);
+    hops.push(Items::from_vec(Vec::from_slice(alloc, near)?))?;
+    hops.push(Items::from_vec(Vec::from_slice(alloc, far)?))?;
+    hops.push(Items::from_vec(Vec::from_slice(alloc, &[op(0, 0)])?))?;
+    Ok(Management {
+        version: 0x0100,
+        width: 0,
+        src: Epid(9),
+        hops,
+    })
+}
+
+#[test]
+fn a_probe_learns_of_two_crossbars(rt: HostRuntime) -> Result<(), Fail> {
+    let alloc = rt.alloc();
+    let mut near = Crossbar::new(alloc, 1, 4, 0b0111, &epids(alloc)?)?;
+    let mut far = Crossbar::new(alloc, 2, 2, 0b10, &epids(alloc)?)?;
+    let mut m = probe_packet(
+        alloc,
+        &[op(4, 0), op(1, 0), op(2, 2)],
+        &[op(1, 0), op(4, 0), op(3, 0)],
+    )?;
+    let done = probe(alloc, &mut near, &mut far, &mut m)?;
+    assert_eq!(rt; done, (Done::Forward(2), Done::Return));
+    assert_eq!(rt;
+        (near.route(Epid(9)), far.route(Epid(9))),
+        (Some(1), Some(1))
+    );
+    let wanted = [
+        op(0, 0),
+        op(5, 260 << 30 | 1 << 20 | 1 << 16 | 1),
+        op(5, 258 << 30 | 2 << 20 | 1 << 16 | 1),
+    ];
+    assert_eq!(rt; m.hops.len(), 1);
+    for hop in m.hops.as_slice() {
+        assert_eq!(rt; hop.as_slice(), wanted.as_slice());
+    }
+    Ok(())
+}
 
 #[test]
 fn operations_without_effect_leave_a_packet_dead(rt: HostRuntime) -> Result<(), Fail> {
