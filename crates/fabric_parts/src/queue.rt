@@ -1,7 +1,12 @@
-ghost use Rattle.std.specs.Prelude.{◌≡◌, ◌==◌, ◌<◌, ◌++◌, [], ◌∷◌, length, slice_get, option_copied, IfOk, MatchOption};
+ghost use Rattle.std.specs.Prelude.{◌≡◌, not, ◌==◌, ◌<◌, ◌++◌, [], ◌∷◌, length, slice_get, option_copied, IfOk, MatchOption};
+ghost use Rattle.std.specs.List.{list_all};
+ghost use Rattle.net_machine.specs.Conditions.{is_of};
+ghost use Rattle.net_machine.specs.Front.{Queued};
 
-use chdr_packets::Packet;
+use chdr_packets::{Body, Packet};
+use chdr_words::Epid;
 use circular_buffer::HeapCircularBuffer;
+use net_machine::StreamPlan;
 use rf_base::Memory;
 use std::alloc::Global;
 use std::marker::Model;
@@ -65,6 +70,15 @@ impl Queue {
         self.entries.front()
     }
 
+    /// Whether no packet is of a stream.
+    pub fn has_none_of(&self, plan: &StreamPlan) -> bool
+        ensures { result ≡ list_all (λ (e : Queued). not (is_of plan.now e.packet.dst e.packet.body)) self.now.entries }
+    {
+        self.entries
+            .iter()
+            .all(|entry| !is_of(plan, entry.packet.dst, &entry.packet.body))
+    }
+
     /// A packet joins the queue; it takes no memory.
     pub fn push(&mut self, entry: Entry)
         requires { length self.old.entries < self.old.room }
@@ -82,5 +96,16 @@ impl Queue {
         ensures room { self.new.room ≡ self.old.room }
     {
         self.entries.pop_front()
+    }
+}
+
+/// Whether a packet is of a stream: samples and commands go to its consumer, statuses to its producer.
+fn is_of(plan: &StreamPlan, dst: Epid, body: &Body) -> bool
+    ensures { result ≡ is_of plan.now dst body.now }
+{
+    match body {
+        Body::Samples { .. } | Body::Command(_) => dst.0 == plan.to.0,
+        Body::Status(_) => dst.0 == plan.from.0,
+        Body::Control(_) | Body::Management(_) => false,
     }
 }

@@ -1,5 +1,5 @@
 -- Each event keeps the sizes of a present.
-use Rattle.std.proofs.Common.{◌≡◌, ℕ, ◌+◌, Bool, true, false, List, [], ◌∷◌, ◌++◌, length, set, refl, ◌∙◌, if◌then◌else◌}
+use Rattle.std.proofs.Common.{◌≡◌, ℕ, ◌+◌, Bool, true, false, List, [], ◌∷◌, ◌++◌, length, set, get_or, refl, sym, subst, ◌∙◌, if◌then◌else◌}
 use Rattle.std.specs.Prelude.{Option, Some, None, nat_lt, slice_get, ◌==◌}
 use Rattle.std.specs.Option.{option_map_or}
 use Rattle.std.proofs.lemmas.List.{length-set}
@@ -48,6 +48,14 @@ as-many tree nodes d packet (body.Management m) = by_epid (packet.dst.0 == 0) (n
     by_epid true false = length-set nodes _ _
     by_epid false c = refl
 
+-- each block has its form, once one of them was written
+form-set : (old blocks : List BlockNow) (b : ℕ) (new : BlockNow) → KeepsForm (block_now_at old b) new
+    → ((c : ℕ) → KeepsForm (block_now_at old c) (block_now_at blocks c)) → (c : ℕ) → KeepsForm (block_now_at old c) (block_now_at (set blocks b new) c)
+form-set old blocks b new here each c =
+    one-set (λ k (now : BlockNow) (was : BlockNow). k ≡ c → KeepsForm was now) blocks old (idle_block c) (idle_block c) new b
+    (λ k e. subst (λ n. KeepsForm (get_or old n (idle_block c)) (get_or blocks n (idle_block c))) (sym e) (each c))
+    (λ e. subst (λ n. KeepsForm (get_or old b (idle_block n)) new) e here) c refl
+
 module _ (a : Present) where
   of-now : (s : ℕ) (next : StreamNow → StreamNow) (p : Present) → KeepsSizes a p → KeepsSizes a (on_now s next p)
   of-now s next p k = record { tree = k.tree; plan = k.plan; queues = k.queues; nodes = k.nodes; streams = length-set p.streams s (next (now_at p.streams s)) ∙ k.streams; blocks = k.blocks; forms = k.forms }
@@ -79,7 +87,7 @@ module _ (a : Present) where
     nodes = k.nodes;
     streams = length-set p.streams s (fed_now (now_at p.streams s)) ∙ k.streams;
     blocks = length-set p.blocks b (block_fed i packet (block_now_at p.blocks b)) ∙ k.blocks;
-    forms = one-set (λ c new old. KeepsForm old new) p.blocks a.blocks idle_block idle_block (block_fed i packet (block_now_at p.blocks b)) b k.forms (further (block_now_at a.blocks b) (k.forms b));
+    forms = form-set a.blocks p.blocks b (block_fed i packet (block_now_at p.blocks b)) (further (block_now_at a.blocks b) (k.forms b)) k.forms;
   }
     where
       further : (old : BlockNow) → KeepsForm old (block_now_at p.blocks b) → KeepsForm old (block_fed i packet (block_now_at p.blocks b))

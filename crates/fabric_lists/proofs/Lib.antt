@@ -1,0 +1,4 @@
+mod PartLemmas
+mod StreamLemmas
+mod SiteLemmas
+mod BlockLemmas

@@ -1,0 +1,4 @@
+pub mod QueuesView
+pub mod StreamsView
+pub mod SitesView
+pub mod BlocksView

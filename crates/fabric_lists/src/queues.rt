@@ -1,0 +1,107 @@
+ghost use Rattle.std.specs.Prelude.{◌≡◌, not, ◌<◌, ◌++◌, [], ◌∷◌, List, length, nat_lt, option_copied, replicate, slice_get, slice_set, IfOk};
+ghost use Rattle.std.specs.List.{list_all};
+ghost use Rattle.net_machine.specs.Conditions.{is_of, none_under_way};
+ghost use Rattle.net_machine.specs.Front.{Queued};
+ghost use Rattle.net_present.specs.Onward.{entries_at};
+ghost use Rattle.fabric_parts.specs.Queues.{QueueSeen};
+
+use fabric_parts::{Entry, Queue};
+use net_machine::StreamPlan;
+use rf_base::Memory;
+use std::alloc::Global;
+use std::marker::Model;
+
+/// The queues of a network, by their numbers; contracts see their entries, and the room of each.
+///
+/// Only `new` takes memory.
+#[derive(Debug, Drop)]
+pub struct Queues {
+    queues: Vec<Queue>,
+    room: u32,
+}
+
+impl Model for Queues {
+    ghost use Rattle.fabric_lists.specs.QueuesView.{IsSound, QueuesSeen, view_of};
+
+    ghost Value = { QueuesSeen };
+
+    ghost view = { view_of };
+
+    ghost invariant = { IsSound };
+}
+
+impl Queues {
+    /// So many empty queues of this room.
+    pub fn new(alloc: Global, count: usize, room: u32) -> Result<Queues, Memory>
+        ensures entries { IfOk result (λ queues. queues.entries ≡ replicate count []) }
+        ensures room { IfOk result (λ queues. queues.room ≡ room) }
+    {
+        let mut queues = Vec::with_capacity(alloc, count)?;
+        for _ in 0..count {
+            queues.push(Queue::new(alloc, room)?)?;
+        }
+        Ok(Queues { queues, room })
+    }
+
+    /// How many queues there are.
+    pub fn count(&self) -> usize
+        ensures { result ≡ length self.now.entries }
+    {
+        self.queues.len()
+    }
+
+    /// Whether a queue has room for one more entry.
+    pub fn has_place(&self, q: usize) -> bool
+        requires { q < length self.now.entries }
+        ensures { result ≡ nat_lt (length (entries_at self.now.entries q)) self.now.room }
+    {
+        self.queues[q].len() < self.room as usize
+    }
+
+    /// The front entry of a queue; none where there is no such queue.
+    pub fn front(&self, q: usize) -> Option<&Entry>
+        ensures { option_copied result ≡ slice_get (entries_at self.now.entries q) 0 }
+    {
+        if q < self.queues.len() {
+            self.queues[q].front()
+        } else {
+            None
+        }
+    }
+
+    /// Whether no entry of a stream is in a queue.
+    #[tactic(auto, using(crate::proofs::PartLemmas::none_in_all))]
+    pub fn has_none_of(&self, plan: &StreamPlan) -> bool
+        ensures { result ≡ none_under_way self.now.entries plan.now }
+    {
+        have_none_of(self.queues.as_slice(), plan)
+    }
+
+    /// An entry joins a queue.
+    pub fn push(&mut self, q: usize, entry: Entry)
+        requires there { q < length self.old.entries }
+        requires place { length (entries_at self.old.entries q) < self.old.room }
+        ensures entries { self.new.entries
+            ≡ slice_set self.old.entries q (entries_at self.old.entries q ++ entry ∷ []) }
+        ensures room { self.new.room ≡ self.old.room }
+    {
+        self.queues[q].push(entry);
+    }
+
+    /// The front entry leaves a queue.
+    pub fn pop(&mut self, q: usize) -> Option<Entry>
+        requires { q < length self.old.entries }
+        ensures front { (e : Queued) (rest : List Queued) → entries_at self.old.entries q ≡ e ∷ rest →
+            (result ≡ Some e) × (self.new.entries ≡ slice_set self.old.entries q rest) }
+        ensures room { self.new.room ≡ self.old.room }
+    {
+        self.queues[q].pop()
+    }
+}
+
+/// Whether no entry of a stream is in any of these queues.
+fn have_none_of(queues: &[Queue], plan: &StreamPlan) -> bool
+    ensures { result ≡ list_all (λ (q : QueueSeen). list_all (λ (e : Queued). not (is_of plan.now e.packet.dst e.packet.body)) q.entries) queues.now }
+{
+    queues.iter().all(|queue| queue.has_none_of(plan))
+}
