@@ -1,0 +1,12 @@
+mod PlaceLemmas
+mod FrontLemmas
+mod FinishedLemmas
+mod OrderLemmas
+mod OnwardLemmas
+mod SizesLemmas
+mod ChoosingLemmas
+mod EventLemmas
+mod HopLemmas
+mod BegunLemmas
+mod RoutedLemmas
+mod BuildLemmas

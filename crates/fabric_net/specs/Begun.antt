@@ -1,0 +1,49 @@
+-- The present of a net as it is built, and as a run begins in it.
+use Rattle.std.specs.Prelude.{ℕ, Bool, List, [], length, map, replicate}
+use Rattle.std.specs.List.{range_with_len}
+use Rattle.block_library.specs.Lines.{empty_line}
+use Rattle.block_library.specs.Memory.{kept_of, lists}
+use Rattle.net_topology.specs.declared.plan.Plan.{Plan}
+use Rattle.net_machine.specs.Begin.{built_node, no_plan, opened}
+use Rattle.net_machine.specs.Plans.{block_at}
+use Rattle.net_machine.specs.Queues.{queue_count}
+use Rattle.net_machine.specs.declared.plan.RunPlan.{RunPlan}
+use Rattle.net_machine.specs.declared.plan.StreamPlan.{StreamPlan}
+use Rattle.net_present.specs.Kept.{stream_now}
+use Rattle.net_present.specs.Present.{BlockNow, Present, StreamNow}
+
+-- a net as it is built, with routed or empty tables
+abbrev pub built_now : Plan → Bool → Present
+built_now tree routed = record {
+  tree = tree;
+  plan = no_plan;
+  queues = replicate (queue_count tree) [];
+  nodes = map (built_node tree routed) (range_with_len 0 (length tree.nodes));
+  streams = [];
+  blocks = [];
+  faults = [];
+  requests = 0;
+  answers = 0;
+}
+
+-- what is kept of a stream as it begins: none of its packets was offered
+abbrev pub opened_now : RunPlan → StreamPlan → StreamNow
+opened_now plan stream = stream_now 0 0 (opened plan stream)
+
+-- what is kept of block b, to which nothing was fed
+abbrev pub unfed : RunPlan → ℕ → BlockNow
+unfed plan b = record {
+  kept = kept_of (block_at plan b).kind (block_at plan b).item (lists [] []);
+  line = empty_line b;
+}
+
+-- a run of a plan begins: its streams and blocks are new, and packets are counted anew; the rest stays
+abbrev pub begun_now : RunPlan → Present → Present
+begun_now plan p = record p {
+  plan = plan;
+  streams = map (opened_now plan) plan.streams;
+  blocks = map (unfed plan) (range_with_len 0 (length plan.blocks));
+  faults = plan.faults;
+  requests = 0;
+  answers = 0;
+}

@@ -1,0 +1,6 @@
+pub mod Sizes
+pub mod Fabrics
+pub mod Onward
+pub mod Choosing
+pub mod Begun
+pub mod Routed

@@ -1,0 +1,18 @@
+//! The machine of a network, performed: a net keeps the present of a state, and goes on as the state does.
+#![tactic(auto)]
+
+mod begin;
+mod build;
+mod candidates;
+mod choosing;
+mod conditions;
+mod events;
+mod fabric;
+mod feeds;
+mod finished;
+mod hops;
+mod named;
+mod onward;
+mod orders;
+
+pub use candidates::Sizes;
