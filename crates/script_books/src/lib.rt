@@ -27,6 +27,3 @@ pub use gather::report;
 pub use page::Page;
 pub use refusal::Refusal;
 pub use writing::{ReportFault, write_report};
-
-#[cfg(test)]
-mod tests;
