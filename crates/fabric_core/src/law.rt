@@ -1,6 +1,6 @@
 //! What holds in every run; each law is a function that does nothing and promises it.
 //!
-//! Rule: docs/machine.md, "What always holds".
+//! Rule: docs/net.md, "What always holds".
 ghost use Rattle.fabric_core.specs.Laws.{PresentTells, PresentFollows, StaysLawful, StartsLawful, RunsStayLawful, OrderHolds, RestIsDrained, DrainedIsAll, ChosenIsWhole};
 
 /// The present of a state tells whether an event is enabled, and goes on as the machine does.

@@ -1,6 +1,6 @@
 //! What holds of a network in each of its states, from the building of it on.
 //!
-//! Rule: docs/machine.md, "Lawful states".
+//! Rule: docs/net.md, "Lawful states".
 #![tactic(auto)]
 
 mod law;
