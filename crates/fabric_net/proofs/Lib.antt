@@ -10,3 +10,4 @@ mod HopLemmas
 mod BegunLemmas
 mod RoutedLemmas
 mod BuildLemmas
+mod BegunLaws

@@ -1,15 +1,17 @@
 -- The present of a net as it is built, and as a run begins in it.
-use Rattle.std.specs.Prelude.{ℕ, Bool, List, [], length, map, replicate}
+use Rattle.std.specs.Prelude.{ℕ, Bool, List, [], length, map, replicate, Option}
 use Rattle.std.specs.List.{range_with_len}
 use Rattle.block_library.specs.Lines.{empty_line}
 use Rattle.block_library.specs.Memory.{kept_of, lists}
+use Rattle.block_registers.specs.Registers.{Registers}
 use Rattle.net_topology.specs.declared.plan.Plan.{Plan}
-use Rattle.net_machine.specs.Begin.{built_node, no_plan, opened}
+use Rattle.net_machine.specs.Begin.{begun, built, built_node, no_plan, opened}
 use Rattle.net_machine.specs.Plans.{block_at}
 use Rattle.net_machine.specs.Queues.{queue_count}
+use Rattle.net_machine.specs.State.{State}
 use Rattle.net_machine.specs.declared.plan.RunPlan.{RunPlan}
 use Rattle.net_machine.specs.declared.plan.StreamPlan.{StreamPlan}
-use Rattle.net_present.specs.Kept.{stream_now}
+use Rattle.net_present.specs.Kept.{IsNow, stream_now}
 use Rattle.net_present.specs.Present.{BlockNow, Present, StreamNow}
 
 -- a net as it is built, with routed or empty tables
@@ -47,3 +49,11 @@ begun_now plan p = record p {
   requests = 0;
   answers = 0;
 }
+
+-- what a law says of a net that is built: it is the present of the machine's, whatever the banks
+abbrev pub BuiltIsNow : Type 0
+BuiltIsNow = (tree : Plan) (routed : Bool) (banks : List (Option Registers)) → IsNow (built_now tree routed) (built tree routed banks)
+
+-- and of one in which a run begins
+abbrev pub BegunIsNow : Type 0
+BegunIsNow = (plan : RunPlan) (p : Present) (w : State) → IsNow p w → IsNow (begun_now plan p) (begun plan w)

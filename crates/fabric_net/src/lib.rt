@@ -11,6 +11,7 @@ mod fabric;
 mod feeds;
 mod finished;
 mod hops;
+pub mod law;
 mod named;
 mod onward;
 mod orders;
