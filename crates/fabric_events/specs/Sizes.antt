@@ -1,0 +1,23 @@
+-- How many streams, blocks, nodes and queues a front has, and which events a choice looks at.
+use Rattle.std.specs.Prelude.{ℕ, ◌+◌, ◌*◌, ◌++◌, List, length}
+use Rattle.std.specs.List.{flat_map, range_with_len}
+use Rattle.net_machine.specs.declared.event.Event.{Event}
+use Rattle.net_machine.specs.declared.event.Event.TheVariants.{Ask, Enter, Hop, Lose, Reply, Report}
+use Rattle.net_machine.specs.Choice.{commands_of, feeds_of, for_each}
+use Rattle.fabric_events.specs.declared.candidates.Sizes.{Sizes}
+
+-- the events that a choice looks at in a front of these sizes, in order
+abbrev pub candidates_in : Sizes → List Event
+candidates_in sizes =
+    for_each Enter sizes.streams
+    ++ (flat_map commands_of (range_with_len 0 sizes.streams)
+    ++ (for_each Report sizes.streams
+    ++ (flat_map feeds_of (range_with_len 0 sizes.blocks)
+    ++ (for_each Reply sizes.nodes
+    ++ (for_each Ask sizes.nodes
+    ++ (for_each Lose sizes.queues
+    ++ for_each Hop sizes.queues))))))
+
+-- how many these are
+abbrev pub candidate_count : Sizes → ℕ
+candidate_count sizes = 5 * sizes.streams + 2 * sizes.blocks + 2 * sizes.nodes + 2 * sizes.queues

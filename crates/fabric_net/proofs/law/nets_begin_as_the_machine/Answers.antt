@@ -1,5 +1,0 @@
-use Rattle.fabric_net.proofs.BegunLaws.{begun_is_now, built_is_now}
-use Rattle.fabric_net.proofs.law.nets_begin_as_the_machine.Goals as goal
-
-pub returns : goal.returns
-returns c = record { built = built_is_now; begun = begun_is_now }
