@@ -11,3 +11,4 @@ mod BegunLemmas
 mod RoutedLemmas
 mod BuildLemmas
 mod BegunLaws
+pub mod Laws

@@ -6,16 +6,16 @@ use stream_endpoint::Faults;
 
 /// The parts of a net, by their numbers.
 #[derive(Drop)]
-pub(crate) struct Fabric {
-    pub(crate) wires: Wires,
-    pub(crate) plan: RunPlan,
-    pub(crate) queues: Queues,
-    pub(crate) sites: Vec<Site>,
-    pub(crate) streams: Vec<StreamPart>,
-    pub(crate) blocks: Vec<BlockPart>,
+pub struct Fabric {
+    pub wires: Wires,
+    pub plan: RunPlan,
+    pub queues: Queues,
+    pub sites: Vec<Site>,
+    pub streams: Vec<StreamPart>,
+    pub blocks: Vec<BlockPart>,
     /// The packets to lose.
-    pub(crate) faults: Faults,
+    pub faults: Faults,
     /// How many requests and answers entered their first queue.
-    pub(crate) requests: u64,
-    pub(crate) answers: u64,
+    pub requests: u64,
+    pub answers: u64,
 }

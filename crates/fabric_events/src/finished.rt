@@ -70,7 +70,7 @@ impl Fabric {
     }
 
     /// Whether the producer of a stream makes no more.
-    pub(crate) fn is_closed(&self, s: usize) -> bool
+    pub fn is_closed(&self, s: usize) -> bool
         requires sound { IsSound self.now }
         requires there { s < length self.now.plan.streams }
         ensures { result ≡ is_closed (front_now (present_of self.now)) s }
@@ -83,7 +83,7 @@ impl Fabric {
 
     /// Whether nothing of a stream is under way or due, and all that was given is taken.
     #[tactic(auto, using(crate::proofs::FrontLemmas::front_of_stream, crate::proofs::FrontLemmas::and_false))]
-    pub(crate) fn is_quiet(&self, s: usize) -> bool
+    pub fn is_quiet(&self, s: usize) -> bool
         requires sound { IsSound self.now }
         requires there { s < length self.now.plan.streams }
         ensures { result ≡ is_quiet (front_now (present_of self.now)) s }

@@ -17,3 +17,4 @@ mod onward;
 mod orders;
 
 pub use candidates::Sizes;
+pub use fabric::Fabric;

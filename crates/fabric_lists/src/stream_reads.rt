@@ -1,5 +1,5 @@
 //! What is read of each stream, by its number; one that isn't there is idle.
-ghost use Rattle.std.specs.Prelude.{◌≡◌, ◌==◌, ◌+◌, ◌<◌, length, nat_le, nat_lt, not};
+ghost use Rattle.std.specs.Prelude.{◌≡◌, ◌==◌, ◌+◌, ◌<◌, true, length, nat_le, nat_lt, not, slice_get, IfOk};
 ghost use Rattle.stream_endpoint.specs.Orders.{may_order};
 ghost use Rattle.stream_endpoint.specs.Receiver.{is_due};
 ghost use Rattle.net_machine.specs.Blocks.{drained_by, has_packet};
@@ -8,8 +8,10 @@ ghost use Rattle.net_present.specs.Kept.{now_at};
 ghost use Rattle.net_present.specs.Present.{front_now_of};
 ghost use Rattle.fabric_lists.specs.StreamsView.{plan_seen, streams_of, tx_seen};
 
+use chdr_packets::Packet;
 use chdr_words::CmdOp;
 use fabric_parts::StreamPart;
+use rf_base::Memory;
 
 /// Whether the first ready packet may be sent, but for room in its queue.
 pub fn can_send(streams: &[StreamPart], s: usize) -> bool
@@ -114,6 +116,16 @@ pub fn offered(streams: &[StreamPart], s: usize) -> usize
     ensures { result ≡ (now_at (streams_of streams.now).now s).offered }
 {
     streams[s].offered()
+}
+
+/// The next packet of a Tx's list that wasn't offered.
+pub fn unoffered(streams: &[StreamPart], s: usize) -> Result<Option<Packet>, Memory>
+    requires there { s < length streams.now }
+    requires tx { tx_seen (streams_of streams.now).txs s ≡ true }
+    ensures { IfOk result (λ packet. packet
+        ≡ slice_get (now_at (streams_of streams.now).now s).ready (now_at (streams_of streams.now).now s).offered) }
+{
+    streams[s].unoffered()
 }
 
 /// Whether n packets of a stream were handed out.

@@ -121,3 +121,14 @@ none-first [] = refl
 none-first (p ∷ ps) = refl
 
 pub ruleset packet_lemmas = (none-first)
+
+-- the next packet of a Tx's list, behind what was offered
+pub next-unoffered : (plan : TxPlan) (made : ℕ) (front : List Packet) → made < plan.packets →
+    Some (packet_of plan made) ≡ slice_get (front ++ drop made (produced plan)) (length front)
+next-unoffered plan made front h =
+    ap (λ (l : List Packet). slice_get l 0) (sym (left-first plan made h)) ∙ sym (slice_get-behind front (drop made (produced plan)))
+
+pub none-unoffered : (plan : TxPlan) (made : ℕ) (front : List Packet) → plan.packets ≤ made →
+    None ≡ slice_get (front ++ drop made (produced plan)) (length front)
+none-unoffered plan made front h =
+    ap (λ (l : List Packet). slice_get l 0) (sym (left-none plan made h)) ∙ sym (slice_get-behind front (drop made (produced plan)))

@@ -84,6 +84,23 @@ impl Source {
         }
     }
 
+    /// The next packet of a Tx's list that wasn't offered.
+    pub fn unoffered(&self) -> Result<Option<Packet>, Memory>
+        requires { self.now.is_tx ≡ true }
+        ensures { IfOk result (λ packet. packet ≡ slice_get self.now.ready self.now.offered) }
+    {
+        match &self.tx {
+            Some(plan) => {
+                if self.made < plan.packets {
+                    Ok(Some(plan.packet(*self.front.allocator(), self.made)?))
+                } else {
+                    Ok(None)
+                }
+            }
+            None => Ok(None),
+        }
+    }
+
     /// Takes the next packet of a Tx's list; it takes no memory.
     pub fn offer(&mut self, packet: Packet)
         requires tx { self.old.is_tx ≡ true }

@@ -322,6 +322,14 @@ impl StreamPart {
         self.source.is_tx()
     }
 
+    /// The next packet of a Tx's list that wasn't offered.
+    pub fn unoffered(&self) -> Result<Option<Packet>, Memory>
+        requires { self.now.is_tx ≡ true }
+        ensures { IfOk result (λ packet. packet ≡ slice_get self.now.now.ready self.now.now.offered) }
+    {
+        self.source.unoffered()
+    }
+
     /// How many packets were offered and not sent.
     pub fn offered(&self) -> usize
         ensures { result ≡ self.now.now.offered }
