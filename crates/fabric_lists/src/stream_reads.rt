@@ -1,16 +1,19 @@
 //! What is read of each stream, by its number; one that isn't there is idle.
-ghost use Rattle.std.specs.Prelude.{◌≡◌, ◌==◌, ◌+◌, ◌<◌, true, length, nat_le, nat_lt, not, slice_get, IfOk};
+ghost use Rattle.std.specs.Prelude.{◌≡◌, ◌==◌, ◌+◌, ◌-◌, ◌^◌, ◌<◌, ◌≤◌, true, length, nat_le, nat_lt, not, slice_get, IfOk};
 ghost use Rattle.stream_endpoint.specs.Orders.{may_order};
 ghost use Rattle.stream_endpoint.specs.Receiver.{is_due};
 ghost use Rattle.net_machine.specs.Blocks.{drained_by, has_packet};
 ghost use Rattle.net_machine.specs.Conditions.{can_see, can_send, is_stuck};
 ghost use Rattle.net_present.specs.Kept.{now_at};
 ghost use Rattle.net_present.specs.Present.{front_now_of};
+ghost use Rattle.fabric_parts.specs.Ready.{most_offered};
+ghost use Rattle.fabric_parts.specs.Streams.{tally_now, undrained_now};
 ghost use Rattle.fabric_lists.specs.StreamsView.{plan_seen, streams_of, tx_seen};
 
 use chdr_packets::Packet;
 use chdr_words::CmdOp;
 use fabric_parts::StreamPart;
+use net_machine::{StreamEnd, Tally};
 use rf_base::Memory;
 
 /// Whether the first ready packet may be sent, but for room in its queue.
@@ -113,7 +116,8 @@ pub fn is_tx(streams: &[StreamPart], s: usize) -> bool
 /// How many offered packets of a stream wait to be sent.
 pub fn offered(streams: &[StreamPart], s: usize) -> usize
     requires { s < length streams.now }
-    ensures { result ≡ (now_at (streams_of streams.now).now s).offered }
+    ensures value { result ≡ (now_at (streams_of streams.now).now s).offered }
+    ensures few { result ≤ most_offered }
 {
     streams[s].offered()
 }
@@ -134,4 +138,21 @@ pub fn is_handed(streams: &[StreamPart], s: usize, n: u64) -> bool
     ensures { result ≡ nat_le (n + length (now_at (streams_of streams.now).now s).waiting) (now_at (streams_of streams.now).now s).given }
 {
     n <= streams[s].handed()
+}
+
+/// What a stream did.
+pub fn tally(streams: &[StreamPart], s: usize) -> Tally
+    requires there { s < length streams.now }
+    requires count { (now_at (streams_of streams.now).now s).cuts < 2 ^ 64 - 1 }
+    ensures { result ≡ tally_now (now_at (streams_of streams.now).now s) }
+{
+    streams[s].tally()
+}
+
+/// How a stream stands, if it isn't drained.
+pub fn undrained(streams: &[StreamPart], s: usize) -> StreamEnd
+    requires { s < length streams.now }
+    ensures { result ≡ undrained_now (now_at (streams_of streams.now).now s) }
+{
+    streams[s].undrained()
 }

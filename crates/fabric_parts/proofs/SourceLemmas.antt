@@ -11,7 +11,7 @@ use Rattle.chdr_packets.specs.Length.{length_of}
 use Rattle.chdr_packets.specs.declared.packet.Packet.{Packet}
 use Rattle.chdr_words.specs.Wire.{time_bytes, wire_size_of}
 use Rattle.net_machine.specs.Blocks.{has_packet}
-use Rattle.fabric_parts.specs.Ready.{IsMaking, IsShort, SourceSeen, first_wire, offered_by, unmade, wire_of_each}
+use Rattle.fabric_parts.specs.Ready.{IsMaking, IsShort, SourceSeen, first_wire, most_offered, offered_by, unmade, wire_of_each}
 
 length-sample : (i item number : ℕ) → length (bytes_low_first i item number) ≡ item
 length-sample i zero number = refl
@@ -132,3 +132,14 @@ pub none-unoffered : (plan : TxPlan) (made : ℕ) (front : List Packet) → plan
     None ≡ slice_get (front ++ drop made (produced plan)) (length front)
 none-unoffered plan made front h =
     ap (λ (l : List Packet). slice_get l 0) (sym (left-none plan made h)) ∙ sym (slice_get-behind front (drop made (produced plan)))
+
+-- with one offered packet more there are still few, and with one less
+pub few-more : (tx : Option TxPlan) (front new : List Packet) (p : Packet) → is_some tx ≡ true → new ≡ front ++ p ∷ []
+    → offered_by tx (length front) < most_offered → offered_by tx (length new) ≤ most_offered
+few-more None front new p some is few = omega arith
+few-more (Some plan) front new p some is few = omega (arith, few, ap (λ (ps : List Packet). length ps) is, length-append front (p ∷ []))
+
+pub few-less : (tx : Option TxPlan) (front : List Packet) → offered_by tx (length front) ≤ most_offered
+    → offered_by tx (length (drop 1 front)) ≤ most_offered
+few-less None front few = omega arith
+few-less (Some plan) front few = omega (arith, few, length-drop 1 front)

@@ -21,3 +21,4 @@ pub record IsSound (source : Inside) : Type 0 where
   pub short : All IsShort source.front.items
   pub making : IsMaking source.tx source.made
   pub room : HasRoom source.tx (deque_capacity source.front)
+  pub few : offered_by source.tx (length source.front.items) ≤ most_offered

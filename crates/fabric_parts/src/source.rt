@@ -1,4 +1,4 @@
-ghost use Rattle.std.specs.Prelude.{◌≡◌, ◌+◌, ◌-◌, ◌<◌, [], ◌∷◌, true, false, not, length, slice_get, IfOk, IfSome, is_some, All, Some};
+ghost use Rattle.std.specs.Prelude.{◌≡◌, ◌+◌, ◌-◌, ◌<◌, ◌≤◌, [], ◌∷◌, true, false, not, length, slice_get, IfOk, IfSome, is_some, All, Some};
 ghost use Rattle.block_library.specs.Producer.{FitsPlan};
 ghost use Rattle.net_machine.specs.Blocks.{has_packet};
 ghost use Rattle.fabric_parts.specs.Ready.{IsMaking, IsShort, first_wire, most_offered, ready_first, unmade, wire_of_each};
@@ -76,7 +76,8 @@ impl Source {
 
     /// How many packets were offered and not sent.
     pub fn offered(&self) -> usize
-        ensures { result ≡ self.now.offered }
+        ensures value { result ≡ self.now.offered }
+        ensures few { result ≤ most_offered }
     {
         match self.tx {
             Some(_) => self.front.len(),

@@ -332,7 +332,8 @@ impl StreamPart {
 
     /// How many packets were offered and not sent.
     pub fn offered(&self) -> usize
-        ensures { result ≡ self.now.now.offered }
+        ensures value { result ≡ self.now.now.offered }
+        ensures few { result ≤ most_offered }
     {
         self.source.offered()
     }

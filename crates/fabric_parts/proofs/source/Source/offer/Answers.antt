@@ -1,7 +1,7 @@
-use Rattle.std.proofs.Common.{◌≡◌, true, Some, slice_get, subst, sym}
+use Rattle.std.proofs.Common.{◌≡◌, ◌<◌, true, Some, slice_get, subst, sym}
 use Rattle.std.proofs.lemmas.List.Elements.{All-push}
-use Rattle.fabric_parts.specs.Ready.{IsShort, SourceSeen}
-use Rattle.fabric_parts.proofs.SourceLemmas.{offer-next, offer-view}
+use Rattle.fabric_parts.specs.Ready.{IsShort, SourceSeen, most_offered}
+use Rattle.fabric_parts.proofs.SourceLemmas.{few-more, offer-next, offer-view}
 use Rattle.fabric_parts.proofs.source.Source.offer.Goals as goal
 
 pub invariant_of-self : goal.invariant_of-self
@@ -13,6 +13,8 @@ invariant_of-self c =
       short = rw c.push_back_reserved.ensures.items (All-push IsShort c.self.inside.front.items c.args.packet c.self.invariant.short more.short);
       making = more.making;
       room = rw c.push_back_reserved.ensures.capacity c.self.invariant.room;
+      few = few-more c.self.inside.tx c.self.inside.front.items _ c.args.packet tx c.push_back_reserved.ensures.items
+          (subst (λ (v : SourceSeen). v.offered < most_offered) (sym c.self.view_is) c.requires.few);
     }
 
 pub returns : goal.returns

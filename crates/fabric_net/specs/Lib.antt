@@ -1,0 +1,5 @@
+pub mod Standing
+pub mod Asking
+pub mod NetView
+pub mod Offering
+pub mod Telling
