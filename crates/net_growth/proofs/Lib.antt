@@ -1,0 +1,4 @@
+mod States
+mod Presents
+mod Growing
+pub mod Laws
