@@ -5,4 +5,6 @@
 
 mod law;
 
-pub use law::what_is_given_only_grows;
+pub use law::{
+    a_taking_only_takes, only_an_enter_uses_up_what_a_tx_made, what_is_given_only_grows,
+};
