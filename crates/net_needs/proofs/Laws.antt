@@ -3,9 +3,11 @@ use Rattle.net_needs.specs.EnteringLaws as entering
 use Rattle.net_needs.specs.FeedingLaws as feeding
 use Rattle.net_needs.specs.HoppingLaws as hopping
 use Rattle.net_needs.specs.Needs as needs
+use Rattle.net_needs.specs.Sending as sending
 use Rattle.net_needs.specs.Staying as staying
 use Rattle.net_needs.proofs.Counting.{counts-rise}
 use Rattle.net_needs.proofs.Needs.{lawful-needs}
+use Rattle.net_needs.proofs.Sending.{only-enters}
 use Rattle.net_needs.proofs.Staying.{sizes-stay}
 use Rattle.net_needs.proofs.Entering.{ask-ready, command-ready, enter-ready, reply-ready, report-ready, seen-ready}
 use Rattle.net_needs.proofs.Feeding.{feed-ready}
@@ -46,3 +48,6 @@ sizes_stay = sizes-stay
 
 pub counts_rise : staying.CountsRise
 counts_rise = counts-rise
+
+pub only_enters_send : sending.OnlyEntersSend
+only_enters_send = only-enters

@@ -5,5 +5,6 @@ mod Hopping
 mod Feeding
 mod Staying
 mod Counting
+mod Sending
 mod Needs
 pub mod Laws

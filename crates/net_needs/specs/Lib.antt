@@ -5,4 +5,5 @@ pub mod HoppingLaws
 pub mod Feeding
 pub mod FeedingLaws
 pub mod Staying
+pub mod Sending
 pub mod Needs

@@ -3,6 +3,7 @@ ghost use Rattle.net_needs.specs.EnteringLaws.{AskIsReady, CommandIsReady, Enter
 ghost use Rattle.net_needs.specs.FeedingLaws.{FeedIsReady};
 ghost use Rattle.net_needs.specs.HoppingLaws.{HopIsReady, LoseIsReady};
 ghost use Rattle.net_needs.specs.Needs.{LawfulGivesNeeds};
+ghost use Rattle.net_needs.specs.Sending.{OnlyEntersSend};
 ghost use Rattle.net_needs.specs.Staying.{CountsRise, SizesStay};
 
 /// Where a sample, a command, a status, a request or an answer may enter, its stream or node is there,
@@ -40,4 +41,10 @@ pub fn what_is_enabled_can_be_done()
 pub fn sizes_stay_and_counts_rise_slowly()
     ensures sizes { SizesStay }
     ensures counts { CountsRise }
+{}
+
+/// In the present of a lawful state, what is ready on a stream whose producer is a Tx, and how much of it was offered,
+/// changes with an Enter of the stream alone.
+pub fn what_a_tx_made_stays_until_an_enter()
+    ensures { OnlyEntersSend }
 {}

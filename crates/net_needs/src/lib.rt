@@ -6,6 +6,7 @@
 mod law;
 
 pub use law::{
-    sizes_stay_and_counts_rise_slowly, what_enters_has_a_place, what_hops_or_is_lost_is_there,
-    what_is_enabled_can_be_done, what_is_fed_is_taken,
+    sizes_stay_and_counts_rise_slowly, what_a_tx_made_stays_until_an_enter,
+    what_enters_has_a_place, what_hops_or_is_lost_is_there, what_is_enabled_can_be_done,
+    what_is_fed_is_taken,
 };

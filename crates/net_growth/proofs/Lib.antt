@@ -1,0 +1,6 @@
+mod States
+mod Presents
+mod Growing
+mod Taking
+mod Sending
+pub mod Laws
