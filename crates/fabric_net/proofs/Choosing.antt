@@ -1,6 +1,6 @@
 -- Where a Tx has an offered packet for each stream on which something is ready, a net chooses as the machine does.
-use Rattle.std.proofs.Common.{◌≡◌, ℕ, ◌<◌, Bool, true, false, List, [], ◌∷◌, ◌++◌, length, map, refl, sym, ◌∙◌, ap, subst}
-use Rattle.std.specs.Prelude.{◌&&◌, Option, filter, if◌then◌else◌, nat_lt}
+use Rattle.std.proofs.Common.{◌≡◌, ℕ, zero, suc, ◌<◌, Bool, true, false, List, [], ◌∷◌, ◌++◌, length, map, refl, sym, ◌∙◌, ap, subst}
+use Rattle.std.specs.Prelude.{◌&&◌, ◌==◌, IfSome, Option, filter, if◌then◌else◌, nat_lt, slice_get}
 use Rattle.std.specs.List.{AllByRecursion, flat_map, range_with_len}
 use Rattle.std.proofs.Math.ListN.{get_or-map}
 use Rattle.std.proofs.lemmas.Bool.{lt-ltb}
@@ -14,6 +14,7 @@ use Rattle.net_machine.specs.Front.{Front, StreamFront, front, front_at}
 use Rattle.net_machine.specs.Laws.{IsTaking}
 use Rattle.net_machine.specs.Plans.{plan_at}
 use Rattle.net_machine.specs.Queues.{forward_vc}
+use Rattle.net_machine.specs.Seeds.{next_seed, place_in}
 use Rattle.net_machine.specs.State.{State}
 use Rattle.net_present.proofs.Laws.{fronts_agree, present_tells}
 use Rattle.net_present.specs.Kept.{IsNow, idle_now, now_at}
@@ -116,3 +117,29 @@ same-choice seed p w supplied now = ap (chosen_of seed) (same-list p w supplied 
 
 pub same-seed : (seed : ℕ) (p : Present) (w : State) → AreSupplied p → IsNow p w → seed_now seed p ≡ seed_after seed (enabled_list w)
 same-seed seed p w supplied now = ap (seed_after seed) (same-list p w supplied now)
+
+-- ---- what is chosen can happen
+
+passes-if : (test : Event → Bool) (b : Bool) (x : Event) (xs : List Event) → test x ≡ b → AllByRecursion (λ (e : Event). test e ≡ true) xs
+    → AllByRecursion (λ (e : Event). test e ≡ true) (if b then x ∷ xs else xs)
+passes-if test true x xs is rest = (is, rest)
+passes-if test false x xs is rest = rest
+
+all-pass : (test : Event → Bool) (events : List Event) → AllByRecursion (λ (e : Event). test e ≡ true) (filter test events)
+all-pass test [] = tt
+all-pass test (e ∷ es) = passes-if test (test e) e (filter test es) refl (all-pass test es)
+
+at-pass : (test : Event → Bool) (events : List Event) (k : ℕ) → AllByRecursion (λ (e : Event). test e ≡ true) events
+    → IfSome (slice_get events k) (λ (e : Event). test e ≡ true)
+at-pass test [] k all = tt
+at-pass test (e ∷ es) zero all = all.0
+at-pass test (e ∷ es) (suc k) all = at-pass test es k all.1
+
+by-seed : (test : Event → Bool) (b : Bool) (events : List Event) (k : ℕ) → AllByRecursion (λ (e : Event). test e ≡ true) events
+    → IfSome (if b then slice_get events 0 else slice_get events k) (λ (e : Event). test e ≡ true)
+by-seed test true events k all = at-pass test events 0 all
+by-seed test false events k all = at-pass test events k all
+
+pub chosen-can : (seed : ℕ) (p : Present) → IfSome (chosen_now seed p) (λ (e : Event). doable_now p e ≡ true)
+unfolding doable_list
+chosen-can seed p = by-seed (doable_now p) (seed == 0) (doable_list p) (place_in (length (doable_list p)) (next_seed seed)) (all-pass (doable_now p) (candidates (front_now p)))

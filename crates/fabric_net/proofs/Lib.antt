@@ -1,3 +1,4 @@
 mod Standing
 mod Choosing
 mod Telling
+mod Resting

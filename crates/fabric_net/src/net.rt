@@ -1,4 +1,4 @@
-ghost use Rattle.std.specs.Prelude.{◌≡◌, ◌++◌, ℕ, List, [], ◌∷◌, Option, IfOk, OnOk, OnErr, IsTrue, None, Some};
+ghost use Rattle.std.specs.Prelude.{◌≡◌, ◌++◌, ℕ, List, [], ◌∷◌, Option, IfOk, IfSome, OnOk, OnErr, IsTrue, None, Some};
 ghost use Rattle.block_registers.specs.Registers.{Registers};
 ghost use Rattle.net_machine.specs.Begin.{begun, built};
 ghost use Rattle.net_machine.specs.CanBegin.{CanBegin};
@@ -58,6 +58,7 @@ impl Net {
         ensures present { IfOk result (λ net. net.present ≡ built_now topology.now routed) }
         ensures machine { IfOk result (λ net. (banks : List (Option Registers)) →
             StandsFor net.present (built topology.now routed banks)) }
+        ensures rest { IfOk result (λ net. IsResting net.present) }
         ensures journal { IfOk result (λ net. net.journal ≡ []) }
         ensures prepared { IfOk result (λ net. net.prepared ≡ None) }
     {
@@ -114,6 +115,7 @@ impl Net {
     /// Rule: docs/machine.md, "Choosing".
     pub fn choose(&self, seed: &mut Seed) -> Option<Event>
         ensures event { result ≡ chosen_now seed.old.0 self.now.present }
+        ensures doable { IfSome result (λ e. IsTrue (doable_now self.now.present e)) }
         ensures seed { seed.new.0 ≡ seed_now seed.old.0 self.now.present }
         ensures machine { (w : State) → StandsFor self.now.present w → AreSupplied self.now.present →
             (result ≡ chosen seed.old.0 w) × (seed.new.0 ≡ seed_after seed.old.0 (enabled_list w)) }

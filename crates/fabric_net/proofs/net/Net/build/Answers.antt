@@ -8,7 +8,8 @@ use Rattle.net_machine.specs.Begin.{built}
 use Rattle.net_lawful.specs.Messages.{FitsTree}
 use Rattle.net_present.specs.Present.{Present}
 use Rattle.net_needs.specs.Staying.{IsCounted}
-use Rattle.fabric_net.specs.Standing.{StandsFor}
+use Rattle.fabric_net.specs.Standing.{IsResting, StandsFor}
+use Rattle.fabric_net.proofs.Resting.{built-rests}
 use Rattle.fabric_net.proofs.Standing.{counted-built, stands-built}
 use Rattle.fabric_net.proofs.net.Net.build.Goals as goal
 
@@ -38,3 +39,7 @@ returns-clause-machine c =
           (c.as_slice.ensures ∙ ap (λ (plan : Plan). plan.nodes) c.plan-plan.ensures.same) c.epids_are_short.ensures;
     } in
     λ banks. subst (λ (q : Present). StandsFor q (built tree c.args.routed banks)) (sym c.in_ok-fabric.ensures.present) (stands-built tree c.args.routed banks c.plan-plan.ensures.tree.tree fits)
+
+pub returns-clause-rest : goal.returns-clause-rest
+returns-clause-rest c =
+    subst (λ (q : Present). IsResting q) (sym c.in_ok-fabric.ensures.present) (built-rests c.args.topology.now c.args.routed)
