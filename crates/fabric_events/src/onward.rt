@@ -97,7 +97,7 @@ impl Fabric {
 
     /// The link over which the tables send a packet on that came over d.
     #[tactic(auto, using(crate::proofs::FrontLemmas::node_count))]
-    fn table_onward(&self, d: u16, dst: Epid) -> Option<u16>
+    pub fn table_onward(&self, d: u16, dst: Epid) -> Option<u16>
         requires sound { IsSound self.now }
         requires link { d < link_count self.now.wires }
         ensures value { result ≡ sent_on self.now.wires (exits_of (present_of self.now).nodes) dst d }
