@@ -11,3 +11,5 @@ mod BegunLemmas
 mod RoutedLemmas
 mod BuildLemmas
 mod BegunLaws
+mod WalkLemmas
+mod PassLemmas

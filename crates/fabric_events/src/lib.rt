@@ -10,10 +10,12 @@ mod events;
 mod fabric;
 mod feeds;
 mod finished;
+mod hopping;
 mod hops;
 pub mod law;
 mod named;
 mod onward;
 mod orders;
+mod walks;
 
 pub use candidates::Sizes;
