@@ -16,6 +16,7 @@ pub mod law;
 mod named;
 mod onward;
 mod orders;
+mod reserving;
 mod walks;
 
 pub use candidates::Sizes;

@@ -1,5 +1,5 @@
 //! What is read of each stream, by its number; one that isn't there is idle.
-ghost use Rattle.std.specs.Prelude.{◌≡◌, ◌==◌, ◌+◌, ◌<◌, length, nat_le, nat_lt, not};
+ghost use Rattle.std.specs.Prelude.{◌≡◌, ◌==◌, ◌+◌, ◌<◌, length, nat_le, nat_lt, not, option_copied, slice_get};
 ghost use Rattle.stream_endpoint.specs.Orders.{may_order};
 ghost use Rattle.stream_endpoint.specs.Receiver.{is_due};
 ghost use Rattle.net_machine.specs.Blocks.{drained_by, has_packet};
@@ -8,6 +8,7 @@ ghost use Rattle.net_present.specs.Kept.{now_at};
 ghost use Rattle.net_present.specs.Present.{front_now_of};
 ghost use Rattle.fabric_lists.specs.StreamsView.{plan_seen, streams_of, tx_seen};
 
+use chdr_packets::Packet;
 use chdr_words::CmdOp;
 use fabric_parts::StreamPart;
 
@@ -122,4 +123,12 @@ pub fn is_handed(streams: &[StreamPart], s: usize, n: u64) -> bool
     ensures { result ≡ nat_le (n + length (now_at (streams_of streams.now).now s).waiting) (now_at (streams_of streams.now).now s).given }
 {
     n <= streams[s].handed()
+}
+
+/// The first packet of a stream that was neither handed out nor fed to a block.
+pub fn first_waiting(streams: &[StreamPart], s: usize) -> Option<&Packet>
+    requires { s < length streams.now }
+    ensures { option_copied result ≡ slice_get (now_at (streams_of streams.now).now s).waiting 0 }
+{
+    streams[s].first_waiting()
 }
