@@ -13,3 +13,4 @@ mod BuildLemmas
 mod BegunLaws
 mod WalkLemmas
 mod PassLemmas
+mod DoableLemmas

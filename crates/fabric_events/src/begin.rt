@@ -23,7 +23,7 @@ impl Fabric {
     /// A run of a plan begins: its streams and blocks are new, and packets are counted anew.
     ///
     /// At `Err` nothing changes. Rule: docs/machine.md, "How a run begins".
-    pub(crate) fn begin(&mut self, plan: &RunPlan) -> Result<(), Memory>
+    pub fn begin(&mut self, plan: &RunPlan) -> Result<(), Memory>
         requires sound { IsSound self.old }
         requires fits { FitsRun plan.now }
         requires few_streams { length plan.now.streams ≤ 16 }

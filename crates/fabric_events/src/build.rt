@@ -23,7 +23,7 @@ impl Fabric {
     /// The net of a tree, with nothing under way; its tables lead over each way, or have no entry.
     ///
     /// Rule: docs/machine.md, "How a run begins".
-    pub(crate) fn build(alloc: Global, topology: &Topology, routed: bool) -> Result<Fabric, Memory>
+    pub fn build(alloc: Global, topology: &Topology, routed: bool) -> Result<Fabric, Memory>
         ensures sound { IfOk result IsSound }
         ensures present { IfOk result (λ f. present_of f ≡ built_now topology.now routed) }
     {

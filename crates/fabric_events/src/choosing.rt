@@ -12,7 +12,7 @@ use net_machine::{Event, Seed};
 
 impl Fabric {
     /// Whether an event is enabled.
-    pub(crate) fn enabled(&self, event: Event) -> bool
+    pub fn enabled(&self, event: Event) -> bool
         requires { IsSound self.now }
         ensures { result ≡ may (front_now (present_of self.now)) event }
     {
@@ -32,7 +32,7 @@ impl Fabric {
     /// Whether an event can happen: besides, the packet that a Tx sends was offered, and those that are taken
     /// were handed out.
     #[tactic(auto, unfolding(crate::specs::Choosing::doable_now))]
-    pub(crate) fn doable(&self, event: Event) -> bool
+    pub fn doable(&self, event: Event) -> bool
         requires { IsSound self.now }
         ensures { result ≡ doable_now (present_of self.now) event }
     {
@@ -120,7 +120,7 @@ impl Fabric {
     }
 
     /// The event that a seed chooses among those that can happen; it looks at each.
-    pub(crate) fn choose(&self, seed: &mut Seed) -> Option<Event>
+    pub fn choose(&self, seed: &mut Seed) -> Option<Event>
         requires { IsSound self.now }
         ensures event { result ≡ chosen_now seed.old.0 (present_of self.now) }
         ensures seed { seed.new.0 ≡ seed_now seed.old.0 (present_of self.now) }

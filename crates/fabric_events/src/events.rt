@@ -203,7 +203,7 @@ impl Fabric {
     }
 
     /// The first packet that waits at a consumer is handed out.
-    pub(crate) fn hand(&mut self, s: usize) -> Option<Packet>
+    pub fn hand(&mut self, s: usize) -> Option<Packet>
         requires sound { IsSound self.old }
         requires there { s < length self.old.streams.items }
         ensures packet { result ≡ slice_get (now_at (streams_of self.old.streams.items).now s).waiting 0 }
@@ -214,7 +214,7 @@ impl Fabric {
     }
 
     /// Takes the next packet of a Tx's list.
-    pub(crate) fn offer(&mut self, s: usize, packet: Packet)
+    pub fn offer(&mut self, s: usize, packet: Packet)
         requires sound { IsSound self.old }
         requires there { s < length self.old.streams.items }
         requires tx { is_tx_stream self.old.plan s ≡ true }
@@ -228,7 +228,7 @@ impl Fabric {
     }
 
     /// The first answer that came to a node is taken out.
-    pub(crate) fn take_answer(&mut self, x: usize) -> Option<Packet>
+    pub fn take_answer(&mut self, x: usize) -> Option<Packet>
         requires sound { IsSound self.old }
         requires there { x < length self.old.sites.items }
         ensures answer { result ≡ slice_get (node_in (sites_of self.old.sites.items).nodes x).answers 0 }
@@ -240,7 +240,7 @@ impl Fabric {
     }
 
     /// A request is given to a node. At `Err` nothing changes, and the packet is dropped.
-    pub(crate) fn ask_request(&mut self, x: usize, packet: Packet) -> Result<(), Memory>
+    pub fn ask_request(&mut self, x: usize, packet: Packet) -> Result<(), Memory>
         requires sound { IsSound self.old }
         requires there { x < length self.old.sites.items }
         ensures sound { IsSound self.new }

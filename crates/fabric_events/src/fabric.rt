@@ -6,7 +6,7 @@ use stream_endpoint::Faults;
 
 /// The parts of a net, by their numbers.
 #[derive(Drop)]
-pub(crate) struct Fabric {
+pub struct Fabric {
     pub(crate) wires: Wires,
     pub(crate) plan: RunPlan,
     pub(crate) queues: Queues,

@@ -10,6 +10,7 @@ mod events;
 mod fabric;
 mod feeds;
 mod finished;
+mod happening;
 mod hopping;
 mod hops;
 pub mod law;
@@ -20,3 +21,4 @@ mod reserving;
 mod walks;
 
 pub use candidates::Sizes;
+pub use fabric::Fabric;
