@@ -11,4 +11,7 @@ mod BegunLemmas
 mod RoutedLemmas
 mod BuildLemmas
 mod BegunLaws
+mod WalkLemmas
+mod PassLemmas
+mod DoableLemmas
 pub mod Laws

@@ -4,3 +4,5 @@ pub mod Onward
 pub mod Choosing
 pub mod Begun
 pub mod Routed
+pub mod Ready
+pub mod Walking

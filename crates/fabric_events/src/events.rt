@@ -32,7 +32,7 @@ use std::alloc::Global;
 
 impl Fabric {
     /// A packet enters its first queue, that of a directed link and a channel, if there is such a link.
-    fn enter_over(&mut self, link: Option<u16>, vc: u8, marked: bool, packet: Packet)
+    pub(crate) fn enter_over(&mut self, link: Option<u16>, vc: u8, marked: bool, packet: Packet)
         requires sound { IsSound self.old }
         requires vc { vc < 2 }
         requires link { IfSome link (λ d. d < link_count self.old.wires) }

@@ -74,7 +74,7 @@ impl Fabric {
 
     /// The stream that ends at an input of a block.
     #[tactic(auto, using(crate::proofs::EventLemmas::stream_count))]
-    fn input_of(&self, b: usize, input: usize) -> Option<usize>
+    pub(crate) fn input_of(&self, b: usize, input: usize) -> Option<usize>
         requires sound { IsSound self.now }
         requires there { b < length self.now.blocks.items }
         ensures value { result ≡ stream_into self.now.plan (block_at self.now.plan b) input }

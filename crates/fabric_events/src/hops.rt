@@ -37,7 +37,7 @@ use plan_lookups::{block_on, stream_from, stream_to};
 impl Fabric {
     /// A packet becomes a pending answer of a node, and ends at once where no link leads on.
     #[tactic(auto, using(crate::proofs::FrontLemmas::node_count))]
-    fn pend(&mut self, x: u16, packet: Packet)
+    pub(crate) fn pend(&mut self, x: u16, packet: Packet)
         requires sound { IsSound self.old }
         requires there { x < length self.old.wires.nodes }
         requires spare { 0 < (spare_seen (sites_of self.old.sites.items).spares x).pending }
@@ -233,7 +233,7 @@ impl Fabric {
 
     /// An entry goes on by the table of a crossbar or an adapter, and comes to an end node.
     #[tactic(auto, using(crate::proofs::HopLemmas::hop_lemmas))]
-    fn go_on<B: RegisterSlots>(&mut self, d: u16, vc: u8, entry: Entry, banks: &mut B)
+    pub(crate) fn go_on<B: RegisterSlots>(&mut self, d: u16, vc: u8, entry: Entry, banks: &mut B)
         requires sound { IsSound self.old }
         requires there { d < link_count self.old.wires }
         requires vc { vc < 2 }

@@ -10,11 +10,15 @@ mod events;
 mod fabric;
 mod feeds;
 mod finished;
+mod happening;
+mod hopping;
 mod hops;
 pub mod law;
 mod named;
 mod onward;
 mod orders;
+mod reserving;
+mod walks;
 
 pub use candidates::Sizes;
 pub use fabric::Fabric;

@@ -129,7 +129,7 @@ impl Fabric {
 }
 
 /// What a packet asks of the nodes on its way: a management packet for no EPID.
-fn walking(packet: &Packet) -> Option<&Management>
+pub(crate) fn walking(packet: &Packet) -> Option<&Management>
     ensures { option_copied result ≡ walking_of packet.now packet.now.body }
 {
     match &packet.body {

@@ -1,5 +1,5 @@
 //! What is read of each stream, by its number; one that isn't there is idle.
-ghost use Rattle.std.specs.Prelude.{◌≡◌, ◌==◌, ◌+◌, ◌-◌, ◌^◌, ◌<◌, ◌≤◌, true, length, nat_le, nat_lt, not, slice_get, IfOk};
+ghost use Rattle.std.specs.Prelude.{◌≡◌, ◌==◌, ◌+◌, ◌-◌, ◌^◌, ◌<◌, ◌≤◌, true, length, nat_le, nat_lt, not, option_copied, slice_get, IfOk};
 ghost use Rattle.stream_endpoint.specs.Orders.{may_order};
 ghost use Rattle.stream_endpoint.specs.Receiver.{is_due};
 ghost use Rattle.net_machine.specs.Blocks.{drained_by, has_packet};
@@ -155,4 +155,12 @@ pub fn undrained(streams: &[StreamPart], s: usize) -> StreamEnd
     ensures { result ≡ undrained_now (now_at (streams_of streams.now).now s) }
 {
     streams[s].undrained()
+}
+
+/// The first packet of a stream that was neither handed out nor fed to a block.
+pub fn first_waiting(streams: &[StreamPart], s: usize) -> Option<&Packet>
+    requires { s < length streams.now }
+    ensures { option_copied result ≡ slice_get (now_at (streams_of streams.now).now s).waiting 0 }
+{
+    streams[s].first_waiting()
 }
