@@ -21,12 +21,11 @@ ghost use Rattle.fabric_lists.specs.SitesView.{sites_of};
 ghost use Rattle.fabric_lists.specs.StreamsView.{streams_of};
 
 use crate::fabric::Fabric;
-use crate::named;
 use chdr_packets::{Body, Packet};
 use chdr_words::{CmdOp, Epid};
 use fabric_lists::{sites, streams};
 use fabric_parts::{Entry, StreamPart};
-use plan_lookups::stream_at;
+use plan_lookups::{named, stream_at};
 use rf_base::{Items, Memory};
 use std::alloc::Global;
 

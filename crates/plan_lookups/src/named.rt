@@ -6,7 +6,7 @@ ghost use Rattle.stream_endpoint.specs.declared.fault.Fault.TheVariants.{Answer,
 use stream_endpoint::{Fault, Faults};
 
 /// Whether packet `k` of the samples of stream `s` is to be lost.
-pub(crate) fn is_named_samples(faults: &Faults, s: usize, k: u64) -> bool
+pub fn is_named_samples(faults: &Faults, s: usize, k: u64) -> bool
     ensures { result ≡ is_named faults.now (Samples s k) }
 {
     faults
@@ -16,7 +16,7 @@ pub(crate) fn is_named_samples(faults: &Faults, s: usize, k: u64) -> bool
 }
 
 /// Whether status `k` of stream `s` is.
-pub(crate) fn is_named_status(faults: &Faults, s: usize, k: u64) -> bool
+pub fn is_named_status(faults: &Faults, s: usize, k: u64) -> bool
     ensures { result ≡ is_named faults.now (Status s k) }
 {
     faults
@@ -26,7 +26,7 @@ pub(crate) fn is_named_status(faults: &Faults, s: usize, k: u64) -> bool
 }
 
 /// Whether command `k` of stream `s` is.
-pub(crate) fn is_named_command(faults: &Faults, s: usize, k: u64) -> bool
+pub fn is_named_command(faults: &Faults, s: usize, k: u64) -> bool
     ensures { result ≡ is_named faults.now (Command s k) }
 {
     faults
@@ -36,7 +36,7 @@ pub(crate) fn is_named_command(faults: &Faults, s: usize, k: u64) -> bool
 }
 
 /// Whether request `k` is.
-pub(crate) fn is_named_request(faults: &Faults, k: u64) -> bool
+pub fn is_named_request(faults: &Faults, k: u64) -> bool
     ensures { result ≡ is_named faults.now (Request k) }
 {
     faults
@@ -46,7 +46,7 @@ pub(crate) fn is_named_request(faults: &Faults, k: u64) -> bool
 }
 
 /// Whether answer `k` is.
-pub(crate) fn is_named_answer(faults: &Faults, k: u64) -> bool
+pub fn is_named_answer(faults: &Faults, k: u64) -> bool
     ensures { result ≡ is_named faults.now (Answer k) }
 {
     faults
