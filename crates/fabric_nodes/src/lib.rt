@@ -4,10 +4,12 @@
 pub mod law;
 mod node;
 mod packets;
+mod ports;
 mod wires;
 
 pub use node::{NodePart, Site};
 pub use packets::Packets;
+pub use ports::{Ports, first_hop, walking};
 pub use wires::Wires;
 
 #[cfg(test)]

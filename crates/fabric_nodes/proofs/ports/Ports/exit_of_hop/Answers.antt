@@ -1,5 +1,5 @@
-use Rattle.fabric_events.proofs.onward.Ports.exit_of_hop.Goals as goal
-use Rattle.fabric_events.proofs.OnwardLemmas.{hop_more}
+use Rattle.fabric_nodes.proofs.ports.Ports.exit_of_hop.Goals as goal
+use Rattle.fabric_nodes.proofs.PortLemmas.{hop_more}
 
 pub loop-op-preserved : goal.loop-op-preserved
 loop-op-preserved c site linked arrival =

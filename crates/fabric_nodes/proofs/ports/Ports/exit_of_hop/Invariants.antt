@@ -1,7 +1,7 @@
 use Rattle.std.proofs.Common.{◌≡◌, take}
 use Rattle.net_nodes.specs.declared.site.Site.{Site}
-use Rattle.fabric_events.specs.Onward.{exit_of_hop}
-use Rattle.fabric_events.proofs.onward.Ports.exit_of_hop.Given as goal
+use Rattle.fabric_nodes.specs.Exits.{exit_of_hop}
+use Rattle.fabric_nodes.proofs.ports.Ports.exit_of_hop.Given as goal
 
 -- the exit so far
 abbrev pub invariant-loop-op : goal.invariant-loop-op
