@@ -3,7 +3,6 @@ use Rattle.std.specs.Prelude.{◌≡◌, ◌≤◌, ℕ, Bool, false, List, leng
 use Rattle.std.specs.List.{range_with_len}
 use Rattle.std.specs.Option.{option_map_or}
 use Rattle.block_library.specs.declared.kind.BlockKind.{BlockKind}
-use Rattle.net_topology.specs.declared.plan.Plan.{Plan}
 use Rattle.chdr_words.specs.declared.epid.Epid.{Epid}
 use Rattle.net_machine.specs.Blocks.{drained_by, is_finished}
 use Rattle.net_machine.specs.Front.{Front, front_at}
@@ -12,9 +11,8 @@ use Rattle.net_machine.specs.Queues.{queue_count}
 use Rattle.net_machine.specs.declared.plan.BlockPlan.{BlockPlan}
 use Rattle.net_machine.specs.declared.plan.RunPlan.{RunPlan}
 use Rattle.net_present.specs.Present.{BlockNow, Present}
-use Rattle.fabric_nodes.specs.Shapes.{Shape, shape_at}
 use Rattle.fabric_lists.specs.BlocksView.{blocks_of}
-use Rattle.fabric_lists.specs.SitesView.{sites_of}
+use Rattle.fabric_lists.specs.SitesView.{shapes_in, sites_of}
 use Rattle.fabric_lists.specs.StreamsView.{streams_of}
 use Rattle.fabric_events.specs.declared.fabric.Fabric.{Fabric}
 
@@ -35,10 +33,6 @@ present_of f = record {
 -- a Tx makes the packets of stream s
 abbrev pub is_tx_stream : RunPlan → ℕ → Bool
 is_tx_stream plan s = option_map_or (λ b. is_tx (block_at plan b).kind) (producer_of plan s) false
-
--- what each node of a tree is
-abbrev pub shapes_in : Plan → List Shape
-shapes_in tree = map (shape_at tree) (range_with_len 0 (length tree.nodes))
 
 -- which streams of a plan a Tx fills
 abbrev pub txs_in : RunPlan → List Bool

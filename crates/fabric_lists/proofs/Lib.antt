@@ -2,3 +2,5 @@ mod PartLemmas
 mod StreamLemmas
 mod SiteLemmas
 mod BlockLemmas
+mod RoutedLemmas
+mod BuildLemmas

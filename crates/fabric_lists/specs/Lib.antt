@@ -2,3 +2,4 @@ pub mod QueuesView
 pub mod StreamsView
 pub mod SitesView
 pub mod BlocksView
+pub mod Routed

@@ -2,9 +2,11 @@
 #![tactic(auto)]
 
 pub mod blocks;
+mod build;
 mod queues;
 pub mod sites;
 pub mod stream_reads;
 pub mod streams;
 
+pub use build::built_sites;
 pub use queues::Queues;

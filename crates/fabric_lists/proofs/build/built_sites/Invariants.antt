@@ -5,7 +5,7 @@ use Rattle.net_machine.specs.Begin.{built_node}
 use Rattle.fabric_nodes.specs.Shapes.{shape_at}
 use Rattle.fabric_nodes.specs.Sites.{node_of}
 use Rattle.fabric_lists.specs.SitesView.{shape_in}
-use Rattle.fabric_events.proofs.build.built_sites.Given as goal
+use Rattle.fabric_lists.proofs.build.built_sites.Given as goal
 
 -- the first nodes are built
 abbrev pub invariant-loop-x : goal.invariant-loop-x

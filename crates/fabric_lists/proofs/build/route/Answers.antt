@@ -1,8 +1,8 @@
 use Rattle.std.proofs.Common.{◌≡◌, ◌<◌, ◌∙◌, length, sym, ap, arith}
 use Rattle.fabric_nodes.specs.Shapes.{NodeSeen}
-use Rattle.fabric_events.proofs.RoutedLemmas.{none-entered, port-entered}
-use Rattle.fabric_events.proofs.build.route.Goals as goal
-use Rattle.fabric_events.proofs.build.route.Goals.{in-Some, in-None}
+use Rattle.fabric_lists.proofs.RoutedLemmas.{none-entered, port-entered}
+use Rattle.fabric_lists.proofs.build.route.Goals as goal
+use Rattle.fabric_lists.proofs.build.route.Goals.{in-Some, in-None}
 
 pub loop-epid-preserved : goal.loop-epid-preserved
 loop-epid-preserved c =

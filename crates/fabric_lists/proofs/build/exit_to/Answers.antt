@@ -1,8 +1,8 @@
 use Rattle.std.proofs.Common.{ℕ, ◌<◌, length, sym, ap, subst}
 use Rattle.net_topology.specs.declared.plan.Plan.{Plan}
 use Rattle.fabric_nodes.specs.Shapes.{HasPort, shape_at}
-use Rattle.fabric_events.proofs.BuildLemmas.{way-port}
-use Rattle.fabric_events.proofs.build.exit_to.Goals as goal
+use Rattle.fabric_lists.proofs.BuildLemmas.{way-port}
+use Rattle.fabric_lists.proofs.build.exit_to.Goals as goal
 
 pub returns-clause-port : goal.returns-clause-port
 returns-clause-port c =

@@ -13,7 +13,7 @@ use Rattle.net_topology.specs.declared.plan.NodePlan.TheVariants.{Crossbar, Adap
 use Rattle.net_topology.specs.declared.plan.Plan.{Plan}
 use Rattle.net_topology.proofs.Laws.{epids_name_nodes}
 use Rattle.fabric_nodes.specs.Shapes.{Shape, Switches, Ends, empty_table, shape_at}
-use Rattle.fabric_events.specs.Routed.{placed, routed_first, routed_table}
+use Rattle.fabric_lists.specs.Routed.{placed, routed_first, routed_table}
 
 -- none of these EPIDs is this one
 abbrev pub Misses : Epid → List Epid → Type 0

@@ -5,10 +5,10 @@ use Rattle.net_machine.specs.State.{Node, blank}
 use Rattle.net_nodes.specs.declared.table.Place.{Place}
 use Rattle.net_topology.specs.declared.plan.Plan.{Plan}
 use Rattle.fabric_nodes.specs.Shapes.{NodeSeen, empty_table, shape_at}
-use Rattle.fabric_events.specs.Routed.{routed_table}
-use Rattle.fabric_events.proofs.BuildLemmas.{empty-node, nothing-lies, routed-node}
-use Rattle.fabric_events.proofs.build.built_site.Goals as goal
-use Rattle.fabric_events.proofs.build.built_site.Goals.{then-routed, else-routed}
+use Rattle.fabric_lists.specs.Routed.{routed_table}
+use Rattle.fabric_lists.proofs.BuildLemmas.{empty-node, nothing-lies, routed-node}
+use Rattle.fabric_lists.proofs.build.built_site.Goals as goal
+use Rattle.fabric_lists.proofs.build.built_site.Goals.{then-routed, else-routed}
 
 pub returns-clause-node : goal.returns-clause-node
 returns-clause-node c =

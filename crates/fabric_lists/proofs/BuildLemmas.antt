@@ -11,13 +11,13 @@ use Rattle.net_nodes.specs.declared.table.Place.{Place}
 use Rattle.net_topology.specs.Leads.{has_table}
 use Rattle.net_topology.specs.Links.{IsWay, start_of, start_port}
 use Rattle.net_topology.specs.Parts.{way_of}
-use Rattle.net_topology.specs.Tree.{IsChecked, IsTree, port_count, ports_of}
+use Rattle.net_topology.specs.Tree.{IsTree, port_count, ports_of}
 use Rattle.net_topology.specs.declared.plan.NodePlan.{NodePlan}
 use Rattle.net_topology.specs.declared.plan.NodePlan.TheVariants.{Crossbar, Adapter, Host, Endpoint}
 use Rattle.net_topology.specs.declared.plan.Plan.{Plan}
-use Rattle.net_topology.proofs.Laws.{links_are_few, links_join_ports, ways_are_there}
+use Rattle.net_topology.proofs.Laws.{links_join_ports, ways_are_there}
 use Rattle.fabric_nodes.specs.Shapes.{HasPort, Shape, Ends, empty_table, shape_at, shape_by}
-use Rattle.fabric_events.specs.Routed.{routed_table}
+use Rattle.fabric_lists.specs.Routed.{routed_table}
 
 -- the shape of a node that may not be there
 abbrev shape_or : Plan → ℕ → Option NodePlan → Shape
@@ -62,10 +62,6 @@ way-port tree x z d ds is from to way =
     let ends = links_join_ports tree is d walk.0.0 in
     let port : start_port tree.links d < port_count tree.nodes x = subst (λ (n : ℕ). start_port tree.links d < port_count tree.nodes n) walk.0.1 ends.2 in
     port-by tree x (start_port tree.links d) (planned tree x) port
-
--- a tree has at most 256 links
-pub few-links : (tree : Plan) → IsChecked tree → length tree.links ≤ 256
-few-links tree is = let few = links_are_few tree is.tree in omega (arith, is.fits.limit, is.tree.nodes.few)
 
 -- a node at which nothing lies
 pub nothing-lies : (table : List Place) (pending requests answers : List Packet) (node : Node) → pending ≡ [] → requests ≡ [] → answers ≡ []

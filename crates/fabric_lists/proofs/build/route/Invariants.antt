@@ -1,8 +1,8 @@
 use Rattle.std.proofs.Common.{◌≡◌}
 use Rattle.net_machine.specs.Begin.{exit_to}
 use Rattle.fabric_nodes.specs.Shapes.{shape_at}
-use Rattle.fabric_events.specs.Routed.{routed_first}
-use Rattle.fabric_events.proofs.build.route.Given as goal
+use Rattle.fabric_lists.specs.Routed.{routed_first}
+use Rattle.fabric_lists.proofs.build.route.Given as goal
 
 -- the first EPIDs have their ports
 abbrev pub invariant-loop-epid : goal.invariant-loop-epid

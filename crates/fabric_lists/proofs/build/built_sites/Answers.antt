@@ -2,8 +2,8 @@ use Rattle.net_machine.specs.Begin.{built_node}
 use Rattle.fabric_nodes.specs.Shapes.{shape_at}
 use Rattle.fabric_nodes.specs.Sites.{node_of}
 use Rattle.fabric_lists.specs.SitesView.{shape_in}
-use Rattle.fabric_events.proofs.BegunLemmas.{one-more}
-use Rattle.fabric_events.proofs.build.built_sites.Goals as goal
+use Rattle.fabric_lists.proofs.PartLemmas.{one-more}
+use Rattle.fabric_lists.proofs.build.built_sites.Goals as goal
 
 pub loop-x-preserved : goal.loop-x-preserved
 loop-x-preserved c =
