@@ -4,3 +4,4 @@ mod SiteLemmas
 mod BlockLemmas
 mod RoutedLemmas
 mod BuildLemmas
+mod OpenedLemmas

@@ -3,3 +3,4 @@ pub mod StreamsView
 pub mod SitesView
 pub mod BlocksView
 pub mod Routed
+pub mod Opened

@@ -1,9 +1,9 @@
 use Rattle.std.proofs.Common.{◌≡◌}
 use Rattle.std.specs.Prelude.{map}
 use Rattle.std.specs.List.{range_with_len}
-use Rattle.fabric_events.specs.Begun.{unfed}
+use Rattle.fabric_lists.specs.Opened.{unfed}
 use Rattle.fabric_lists.specs.BlocksView.{block_in}
-use Rattle.fabric_events.proofs.begin.unfed_blocks.Given as goal
+use Rattle.fabric_lists.proofs.begin.unfed_blocks.Given as goal
 
 -- the first blocks are made
 abbrev pub invariant-loop-b : goal.invariant-loop-b

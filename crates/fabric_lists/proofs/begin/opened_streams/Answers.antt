@@ -2,11 +2,11 @@ use Rattle.std.proofs.Common.{◌≡◌, ◌∙◌, ℕ, length, ap, arith}
 use Rattle.std.specs.Prelude.{map}
 use Rattle.std.specs.List.{range_with_len}
 use Rattle.net_machine.specs.Plans.{plan_at}
-use Rattle.fabric_events.specs.Begun.{opened_now}
-use Rattle.fabric_events.specs.Fabrics.{is_tx_stream}
+use Rattle.fabric_lists.specs.Opened.{is_tx_stream, opened_now}
 use Rattle.fabric_lists.specs.StreamsView.{now_in, plan_in, tx_in}
-use Rattle.fabric_events.proofs.BegunLemmas.{all-opened, all-plans, one-more}
-use Rattle.fabric_events.proofs.begin.opened_streams.Goals as goal
+use Rattle.fabric_lists.proofs.OpenedLemmas.{all-opened, all-plans}
+use Rattle.fabric_lists.proofs.PartLemmas.{one-more}
+use Rattle.fabric_lists.proofs.begin.opened_streams.Goals as goal
 
 pub loop-s-preserved : goal.loop-s-preserved
 loop-s-preserved c =

@@ -1,7 +1,7 @@
-use Rattle.fabric_events.specs.Begun.{unfed}
+use Rattle.fabric_lists.specs.Opened.{unfed}
 use Rattle.fabric_lists.specs.BlocksView.{block_in}
-use Rattle.fabric_events.proofs.BegunLemmas.{one-more}
-use Rattle.fabric_events.proofs.begin.unfed_blocks.Goals as goal
+use Rattle.fabric_lists.proofs.PartLemmas.{one-more}
+use Rattle.fabric_lists.proofs.begin.unfed_blocks.Goals as goal
 
 pub loop-b-preserved : goal.loop-b-preserved
 loop-b-preserved c =
