@@ -3,7 +3,6 @@ ghost use Rattle.std.specs.Prelude.{◌≡◌, ◌+◌, ◌-◌, ◌^◌, ◌<�
 ghost use Rattle.chdr_packets.specs.declared.packet.Packet.{Packet as PacketValue};
 ghost use Rattle.net_machine.specs.Conditions.{can_send};
 ghost use Rattle.net_machine.specs.Nodes.{route_from};
-ghost use Rattle.net_machine.specs.Passing.{message};
 ghost use Rattle.net_machine.specs.Plans.{first_link, plan_at};
 ghost use Rattle.net_machine.specs.Queues.{link_count, queue_of};
 ghost use Rattle.net_machine.specs.State.{node_in};
@@ -23,12 +22,13 @@ ghost use Rattle.fabric_lists.specs.StreamsView.{streams_of};
 
 use crate::fabric::Fabric;
 use chdr_packets::{Body, Packet};
-use chdr_words::{CmdOp, Epid};
+use chdr_words::CmdOp;
+use fabric_lists::stream_reads::{commands, sent, statuses};
 use fabric_lists::{sites, streams};
-use fabric_parts::{Entry, StreamPart};
+use fabric_nodes::message;
+use fabric_parts::Entry;
 use plan_lookups::{named, stream_at};
-use rf_base::{Items, Memory};
-use std::alloc::Global;
+use rf_base::Memory;
 
 impl Fabric {
     /// A packet enters its first queue, that of a directed link and a channel, if there is such a link.
@@ -250,43 +250,4 @@ impl Fabric {
     {
         sites::ask(&mut self.sites, x, packet)
     }
-}
-
-/// What this project makes for an EPID on a channel, other than samples.
-pub(crate) fn message(alloc: Global, vc: u8, dst: Epid, body: Body) -> Packet
-    ensures { result ≡ message vc dst body }
-{
-    Packet {
-        vc,
-        eob: false,
-        eov: false,
-        seq: 0,
-        dst,
-        mdata: Items::new(alloc),
-        body,
-    }
-}
-
-/// How many packets of a stream were sent.
-fn sent(streams: &[StreamPart], s: usize) -> u64
-    requires { s < length streams.now }
-    ensures { result ≡ (now_at (streams_of streams.now).now s).sent }
-{
-    streams[s].sent()
-}
-
-/// How many commands were.
-fn commands(streams: &[StreamPart], s: usize) -> u64
-    requires { s < length streams.now }
-    ensures { result ≡ (now_at (streams_of streams.now).now s).commands }
-{
-    streams[s].commands()
-}
-
-/// How many statuses were.
-fn statuses(streams: &[StreamPart], s: usize) -> u64
-    requires { s < length streams.now }
-    ensures { result ≡ (now_at (streams_of streams.now).now s).statuses }
-{
-    streams[s].statuses()
 }
