@@ -9,7 +9,7 @@ use Rattle.net_present.specs.Kept.{now_at}
 use Rattle.net_present.specs.Onward.{enabled_now}
 use Rattle.net_present.specs.Present.{Present}
 use Rattle.fabric_events.specs.Choosing.{doable_now, is_handed, is_offered}
-use Rattle.fabric_events.specs.Fabrics.{is_tx_stream}
+use Rattle.fabric_lists.specs.Opened.{is_tx_stream}
 
 second_of : (a b : Bool) → IsTrue (a && b) → b ≡ true
 second_of true b both = both

@@ -1,5 +1,5 @@
 -- A part of a fabric changes, and the fabric stays sound.
-use Rattle.std.proofs.Common.{◌≡◌, ℕ, zero, suc, ◌+◌, ◌*◌, ◌<◌, List, [], ◌∷◌, ◌++◌, length, refl, sym, ◌∙◌, ap, subst, get_or, set, Option, None, Some, Bool, false, IsTrue, arith}
+use Rattle.std.proofs.Common.{◌≡◌, ℕ, zero, suc, ◌<◌, List, [], ◌∷◌, length, refl, sym, ◌∙◌, ap, subst, set, Option, None, Some, Bool, false, IsTrue, arith}
 use Rattle.std.specs.Prelude.{All, IfSome, map}
 use Rattle.std.proofs.Math.Seq.{map-set_same}
 use Rattle.block_library.specs.Memory.{after_feed}
@@ -13,7 +13,6 @@ use Rattle.net_machine.specs.Conditions.{can_send}
 use Rattle.net_machine.specs.Front.{Queued, StreamFront}
 use Rattle.net_machine.specs.Plans.{plan_at}
 use Rattle.net_machine.specs.declared.plan.StreamPlan.{StreamPlan}
-use Rattle.net_machine.specs.Queues.{queue_count}
 use Rattle.block_library.specs.declared.kind.BlockKind.{BlockKind}
 use Rattle.net_present.specs.Kept.{block_now_at, idle_block, idle_now, now_at}
 use Rattle.net_present.specs.Onward.{block_fed, enters_over_now, on_any_now, on_now}
@@ -21,7 +20,8 @@ use Rattle.net_present.specs.StreamSteps.{readies_now}
 use Rattle.fabric_parts.specs.Streams.{StreamSeen}
 use Rattle.fabric_lists.specs.BlocksView.{block_in, blocks_of}
 use Rattle.net_present.specs.Present.{BlockNow, Present, StreamNow}
-use Rattle.fabric_events.specs.Fabrics.{IsSound, is_tx_stream, item_now, kind_now, kind_planned, present_of}
+use Rattle.fabric_lists.specs.Opened.{is_tx_stream}
+use Rattle.fabric_events.specs.Fabrics.{IsSound, item_now, kind_now, kind_planned, present_of}
 use Rattle.fabric_lists.specs.QueuesView.{QueuesSeen}
 use Rattle.fabric_lists.specs.StreamsView.{StreamsSeen, now_in, on_at, plan_in, plan_seen, streams_of, tx_seen}
 use Rattle.fabric_events.specs.declared.fabric.Fabric.{Fabric}

@@ -8,8 +8,6 @@ mod ChoosingLemmas
 mod EventLemmas
 mod HopLemmas
 mod BegunLemmas
-mod RoutedLemmas
-mod BuildLemmas
 mod BegunLaws
 mod WalkLemmas
 mod PassLemmas

@@ -15,7 +15,7 @@ use Rattle.net_machine.specs.State.{Node}
 use Rattle.net_present.specs.Onward.{entries_at, hops_now, leaves_now}
 use Rattle.net_present.specs.Present.{Present}
 use Rattle.net_needs.specs.Hopping.{BodyNeeds, HasWayOn}
-use Rattle.fabric_events.specs.Onward.{walking_of}
+use Rattle.fabric_nodes.specs.Exits.{walking_of}
 use Rattle.fabric_events.specs.Walking.{moves_by}
 use Rattle.fabric_events.proofs.WalkLemmas.{with_banks}
 

@@ -3,6 +3,5 @@ pub mod Fabrics
 pub mod Onward
 pub mod Choosing
 pub mod Begun
-pub mod Routed
 pub mod Ready
 pub mod Walking

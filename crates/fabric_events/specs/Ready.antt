@@ -17,7 +17,7 @@ use Rattle.net_needs.specs.Staying.{IsCounted}
 use Rattle.fabric_lists.specs.BlocksView.{blocks_of, made_of, made_seen}
 use Rattle.fabric_lists.specs.SitesView.{sites_of, spare_seen}
 use Rattle.fabric_lists.specs.StreamsView.{streams_of}
-use Rattle.fabric_events.specs.Onward.{walking_of}
+use Rattle.fabric_nodes.specs.Exits.{walking_of}
 use Rattle.fabric_events.specs.declared.fabric.Fabric.{Fabric}
 
 -- a room is there exactly if the packet has a hop besides its last, and then it serves this packet

@@ -14,7 +14,6 @@ mod happening;
 mod hopping;
 mod hops;
 pub mod law;
-mod named;
 mod onward;
 mod orders;
 mod reserving;

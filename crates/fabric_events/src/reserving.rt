@@ -7,7 +7,7 @@ ghost use Rattle.fabric_events.specs.Fabrics.{IsSound, present_of};
 ghost use Rattle.fabric_events.specs.Ready.{FeedReady, HasAnswerRoom, HopReady, IsReady};
 
 use crate::fabric::Fabric;
-use crate::onward::walking;
+use fabric_nodes::walking;
 use chdr_packets::Packet;
 use fabric_lists::{blocks, sites, stream_reads};
 use net_machine::Event;

@@ -164,3 +164,27 @@ pub fn first_waiting(streams: &[StreamPart], s: usize) -> Option<&Packet>
 {
     streams[s].first_waiting()
 }
+
+/// How many packets of a stream were sent.
+pub fn sent(streams: &[StreamPart], s: usize) -> u64
+    requires { s < length streams.now }
+    ensures { result ≡ (now_at (streams_of streams.now).now s).sent }
+{
+    streams[s].sent()
+}
+
+/// How many commands of a stream were sent.
+pub fn commands(streams: &[StreamPart], s: usize) -> u64
+    requires { s < length streams.now }
+    ensures { result ≡ (now_at (streams_of streams.now).now s).commands }
+{
+    streams[s].commands()
+}
+
+/// How many statuses of a stream were sent.
+pub fn statuses(streams: &[StreamPart], s: usize) -> u64
+    requires { s < length streams.now }
+    ensures { result ≡ (now_at (streams_of streams.now).now s).statuses }
+{
+    streams[s].statuses()
+}

@@ -3,7 +3,7 @@ use Rattle.net_machine.specs.Front.{Queued}
 use Rattle.net_machine.specs.Passing.{Passing}
 use Rattle.net_present.specs.Onward.{Held}
 use Rattle.fabric_events.specs.Fabrics.{present_of}
-use Rattle.fabric_events.specs.Onward.{walking_of}
+use Rattle.fabric_nodes.specs.Exits.{walking_of}
 use Rattle.fabric_events.specs.Walking.{moves_by}
 use Rattle.fabric_events.proofs.PassLemmas.{passing_walks, walker_body}
 use Rattle.fabric_events.proofs.WalkLemmas.{with_banks}
