@@ -1,6 +1,6 @@
 -- Where a Tx has an offered packet for each stream on which something is ready, a net chooses as the machine does.
-use Rattle.std.proofs.Common.{◌≡◌, ℕ, zero, suc, ◌<◌, Bool, true, false, List, [], ◌∷◌, ◌++◌, length, map, refl, sym, ◌∙◌, ap, subst}
-use Rattle.std.specs.Prelude.{◌&&◌, ◌==◌, IfSome, Option, filter, if◌then◌else◌, nat_lt, slice_get}
+use Rattle.std.proofs.Common.{◌≡◌, ℕ, zero, suc, ◌<◌, Bool, true, false, List, [], ◌∷◌, ◌++◌, length, map, refl, sym, ◌∙◌, ap}
+use Rattle.std.specs.Prelude.{◌&&◌, ◌==◌, IfSome, filter, if◌then◌else◌, nat_lt, slice_get}
 use Rattle.std.specs.List.{AllByRecursion, flat_map, range_with_len}
 use Rattle.std.proofs.Math.ListN.{get_or-map}
 use Rattle.std.proofs.lemmas.Bool.{lt-ltb}
@@ -8,9 +8,9 @@ use Rattle.chdr_packets.specs.declared.packet.Packet.{Packet}
 use Rattle.net_machine.specs.declared.event.Event.{Event}
 use Rattle.net_machine.specs.declared.event.Event.TheVariants as event
 use Rattle.net_machine.specs.Blocks.{has_packet}
-use Rattle.net_machine.specs.Choice.{candidates, chosen, chosen_of, commands_of, enabled_list, feeds_of, for_each, listing, seed_after}
+use Rattle.net_machine.specs.Choice.{candidates, chosen, chosen_of, commands_of, enabled_list, feeds_of, listing, seed_after}
 use Rattle.net_machine.specs.Conditions.{can_send, enabled, has_place_from, may}
-use Rattle.net_machine.specs.Front.{Front, StreamFront, front, front_at}
+use Rattle.net_machine.specs.Front.{Front, StreamFront, front_at}
 use Rattle.net_machine.specs.Laws.{IsTaking}
 use Rattle.net_machine.specs.Plans.{plan_at}
 use Rattle.net_machine.specs.Queues.{forward_vc}
@@ -19,10 +19,10 @@ use Rattle.net_machine.specs.State.{State}
 use Rattle.net_present.proofs.Laws.{fronts_agree, present_tells}
 use Rattle.net_present.specs.Kept.{IsNow, idle_now, now_at}
 use Rattle.net_present.specs.Onward.{enabled_now}
-use Rattle.net_present.specs.Present.{Present, StreamNow, front_now, front_now_of}
+use Rattle.net_present.specs.Present.{Present, front_now, front_now_of}
 use Rattle.stream_endpoint.specs.declared.flow.Flow.{Flow}
-use Rattle.fabric_events.specs.Choosing.{chosen_now, doable_list, doable_now, is_offered, seed_now}
-use Rattle.fabric_events.specs.Fabrics.{is_tx_stream}
+use Rattle.fabric_events.specs.Choosing.{chosen_now, doable_list, doable_now, is_handed, is_offered, seed_now}
+use Rattle.fabric_lists.specs.Opened.{is_tx_stream}
 use Rattle.fabric_net.specs.Offering.{AreSupplied}
 
 -- ---- what is enabled can happen
@@ -143,3 +143,16 @@ by-seed test false events k all = at-pass test events k all
 pub chosen-can : (seed : ℕ) (p : Present) → IfSome (chosen_now seed p) (λ (e : Event). doable_now p e ≡ true)
 unfolding doable_list
 chosen-can seed p = by-seed (doable_now p) (seed == 0) (doable_list p) (place_in (length (doable_list p)) (next_seed seed)) (all-pass (doable_now p) (candidates (front_now p)))
+
+-- what can happen is enabled
+pub doable-enabled : (p : Present) (e : Event) → doable_now p e ≡ true → enabled_now p e ≡ true
+unfolding doable_now
+doable-enabled p (event.Enter s) can = first-of (enabled_now p (event.Enter s)) (is_offered p s) can
+doable-enabled p (event.Hop q) can = can
+doable-enabled p (event.Seen s n) can = first-of (enabled_now p (event.Seen s n)) (is_handed p s n) can
+doable-enabled p (event.Feed b i) can = can
+doable-enabled p (event.Report s) can = can
+doable-enabled p (event.Command s op) can = can
+doable-enabled p (event.Lose q) can = can
+doable-enabled p (event.Reply x) can = can
+doable-enabled p (event.Ask x) can = can

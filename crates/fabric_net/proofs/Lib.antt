@@ -2,3 +2,5 @@ mod Standing
 mod Choosing
 mod Telling
 mod Resting
+mod Leading
+mod Stepping

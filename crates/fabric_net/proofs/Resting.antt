@@ -4,7 +4,6 @@ use Rattle.std.specs.Prelude.{◌&&◌, replicate, if◌then◌else◌}
 use Rattle.std.specs.List.{range_with_len}
 use Rattle.std.proofs.lemmas.List.{get_or_default}
 use Rattle.chdr_packets.specs.declared.packet.Packet.{Packet}
-use Rattle.chdr_words.specs.declared.command.CmdOp.{CmdOp}
 use Rattle.chdr_words.specs.declared.command.CmdOp.TheVariants.{Init, Ping, Resync, Other}
 use Rattle.net_topology.specs.Links.{link_at}
 use Rattle.net_topology.specs.declared.plan.Plan.{Plan}

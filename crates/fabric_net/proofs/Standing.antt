@@ -18,7 +18,7 @@ use Rattle.net_machine.specs.declared.plan.RunPlan.{RunPlan}
 use Rattle.net_machine.specs.declared.plan.StreamPlan.{StreamPlan}
 use Rattle.net_machine.specs.Begin.{begun, built, no_plan}
 use Rattle.net_machine.specs.CanBegin.{CanBegin}
-use Rattle.net_machine.specs.Conditions.{enabled, ends_at_rx}
+use Rattle.net_machine.specs.Conditions.{ends_at_rx}
 use Rattle.net_machine.specs.Effects.{after}
 use Rattle.net_machine.specs.Front.{Queued, queued}
 use Rattle.net_machine.specs.Moves.{Answered, AreEmpty, Asks, CanAsk, Happens, IsAtRest, IsRequest, Loads, Marks, answered, asks, marked}
@@ -31,13 +31,13 @@ use Rattle.net_present.specs.Laws.{IsHeld}
 use Rattle.net_present.specs.Onward.{Held, enabled_now, goes_on, on_now}
 use Rattle.net_present.specs.Present.{Present, StreamNow}
 use Rattle.net_lawful.proofs.Laws.{begun_is_lawful, built_is_lawful, lawful_stays}
-use Rattle.net_lawful.specs.Lawful.{Lawful}
 use Rattle.net_lawful.specs.Messages.{FitsTree}
 use Rattle.net_promises.proofs.Laws.{lawful_fits_present}
 use Rattle.net_needs.specs.Staying.{IsCounted, IsStreamCounted}
 use Rattle.fabric_parts.specs.Streams.{hands_now, offers_now}
 use Rattle.fabric_events.proofs.Laws.{begun_is_now, built_is_now}
-use Rattle.fabric_events.specs.Begun.{begun_now, built_now, opened_now}
+use Rattle.fabric_lists.specs.Opened.{opened_now}
+use Rattle.fabric_events.specs.Begun.{begun_now, built_now}
 use Rattle.fabric_net.specs.Asking.{CanAskNow, IsRequestNow, answered_now, asked_now, marked_now}
 use Rattle.fabric_net.specs.Standing.{HasNoEntries, IsResting, StandsFor}
 

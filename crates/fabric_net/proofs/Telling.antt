@@ -1,6 +1,6 @@
 -- What a net tells of a stream is what the machine tells.
-use Rattle.std.proofs.Common.{◌≡◌, ℕ, ◌+◌, ◌-◌, ◌^◌, ◌<◌, ◌≤◌, ◌⊎◌, inl, inr, Bool, true, false, List, length, map, refl, sym, ◌∙◌, ap, subst, arith}
-use Rattle.std.specs.Prelude.{Option, None, Some, if◌then◌else◌, slice_get}
+use Rattle.std.proofs.Common.{◌≡◌, ℕ, ◌+◌, ◌-◌, ◌^◌, ◌<◌, ◌≤◌, ◌⊎◌, inl, inr, Bool, true, false, List, length, refl, sym, ◌∙◌, ap, subst, arith}
+use Rattle.std.specs.Prelude.{Option, None, Some, if◌then◌else◌}
 use Rattle.std.specs.Option.{option_map_or}
 use Rattle.std.proofs.lemmas.Bool.{cases_lt, false≢true}
 use Rattle.std.proofs.lemmas.List.{length-map}
@@ -14,20 +14,17 @@ use Rattle.net_topology.specs.declared.plan.NodePlan.TheVariants.{Crossbar, Adap
 use Rattle.net_topology.specs.declared.plan.Plan.{Plan}
 use Rattle.stream_laws.proofs.Laws.{within_capacity}
 use Rattle.stream_laws.specs.Machine.{Core}
-use Rattle.stream_endpoint.specs.declared.state.Gap.{Gap}
 use Rattle.chdr_packets.specs.declared.packet.Packet.{Packet}
 use Rattle.net_machine.specs.Blocks.{drained_by, is_closed, is_drained}
 use Rattle.net_machine.specs.Front.{Front, StreamFront, front}
 use Rattle.net_machine.specs.Nodes.{entry_at, exits_of, is_host, is_host_at, is_switch, planned}
 use Rattle.net_machine.specs.Plans.{no_epid, plan_at}
-use Rattle.net_machine.specs.State.{State, Stream, node_in, stream_at}
+use Rattle.net_machine.specs.State.{State, node_in, stream_at}
 use Rattle.net_machine.specs.Tallies.{acked_of, end_of, tally_of, undrained}
-use Rattle.net_machine.specs.declared.tally.StreamEnd.{StreamEnd}
 use Rattle.net_machine.specs.declared.tally.StreamEnd.TheVariants.{Drained}
-use Rattle.net_machine.specs.declared.tally.Tally.{Tally}
 use Rattle.net_present.proofs.Laws.{fronts_agree}
 use Rattle.net_present.specs.Kept.{now_at, stream_now}
-use Rattle.net_present.specs.Present.{Present, StreamNow, front_now, front_now_of}
+use Rattle.net_present.specs.Present.{Present, front_now, front_now_of}
 use Rattle.net_streams.specs.Shows.{core_of, load_of, loads_of, terms_of}
 use Rattle.net_lawful.specs.Lawful.{Lawful}
 use Rattle.fabric_nodes.specs.Shapes.{Ends, Shape, leaves_of, shape_by}

@@ -7,6 +7,7 @@ use Rattle.net_present.specs.Present.{Present}
 use Rattle.net_needs.specs.Staying.{IsCounted}
 use Rattle.fabric_events.specs.Fabrics.{present_of}
 use Rattle.fabric_events.specs.Fabrics as fabrics
+use Rattle.fabric_events.specs.Ready.{IsReady}
 use Rattle.fabric_net.specs.Standing.{StandsFor}
 use Rattle.fabric_net.specs.declared.net.Net.TheInside.{Inside}
 use Rattle.fabric_net.specs.declared.net.Prepared.{Prepared}
@@ -36,6 +37,7 @@ most_steps = 2 ^ 64 - 2
 pub record IsMadeFor (net : Inside) (made : Prepared) : Type 0 where
   pub place : length net.journal.items < vec_capacity net.journal
   pub count : net.steps < most_steps
+  pub ready : IsTrue (enabled_now (present_of net.fabric) made.event) → IsReady net.fabric made.room made.event
 
 abbrev pub IsArmed : Inside → Option Prepared → Type 0
 IsArmed net None = Unit {0}

@@ -3,7 +3,7 @@ use Rattle.std.specs.Prelude.{◌≡◌, ℕ, ◌<◌, true}
 use Rattle.net_machine.specs.Blocks.{has_packet}
 use Rattle.net_present.specs.Kept.{now_at}
 use Rattle.net_present.specs.Present.{Present}
-use Rattle.fabric_events.specs.Fabrics.{is_tx_stream}
+use Rattle.fabric_lists.specs.Opened.{is_tx_stream}
 
 -- stream s isn't of a Tx, or nothing is ready on it, or something of that was offered
 abbrev pub IsSupplied : Present → ℕ → Type 0

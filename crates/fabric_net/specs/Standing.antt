@@ -1,5 +1,5 @@
 -- For which states of the machine a present stands.
-use Rattle.std.specs.Prelude.{◌≡◌, ℕ, Bool, false, List, [], All}
+use Rattle.std.specs.Prelude.{◌≡◌, false, List, [], All}
 use Rattle.net_machine.specs.declared.event.Event.{Event}
 use Rattle.net_machine.specs.Front.{Queued}
 use Rattle.net_machine.specs.State.{Node, State}

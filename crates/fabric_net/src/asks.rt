@@ -7,7 +7,7 @@ ghost use Rattle.net_present.specs.Kept.{now_at};
 ghost use Rattle.net_present.specs.Onward.{on_now};
 ghost use Rattle.fabric_parts.specs.Ready.{most_offered};
 ghost use Rattle.fabric_parts.specs.Streams.{hands_now, offers_now};
-ghost use Rattle.fabric_events.specs.Fabrics.{is_tx_stream};
+ghost use Rattle.fabric_lists.specs.Opened.{is_tx_stream};
 ghost use Rattle.fabric_net.specs.Asking.{CanAskNow, answered_now, asked_now, marked_now};
 ghost use Rattle.fabric_net.specs.Standing.{HasNoEntries, StandsFor};
 

@@ -6,7 +6,9 @@
 mod asks;
 mod epids;
 mod net;
+mod reaching;
 mod renaming;
+mod steps;
 mod tells;
 
 pub use net::Net;

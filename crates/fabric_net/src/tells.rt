@@ -12,6 +12,7 @@ ghost use Rattle.fabric_net.specs.Standing.{StandsFor};
 ghost use Rattle.fabric_net.specs.Telling.{end_now};
 
 use crate::Net;
+use crate::reaching::reaches;
 use block_library::Line;
 use chdr_words::Epid;
 use fabric_lists::{blocks, sites, stream_reads};
@@ -65,6 +66,13 @@ impl Net {
         } else {
             None
         }
+    }
+
+    /// Whether the packet that leaves the node of EPID `a` by its one link comes by the tables to that of EPID `b`.
+    pub fn reaches(&self, a: Epid, b: Epid) -> bool
+        ensures { IsTrue result ↔ Leads self.now.present.tree (exits_of self.now.present.nodes) a b }
+    {
+        reaches(&self.fabric, a, b)
     }
 
     /// The entry of a crossbar or an adapter for an EPID; none at any other node.

@@ -1,4 +1,4 @@
-use Rattle.std.proofs.Common.{◌≡◌, ◌<◌, ◌^◌, ℕ, take}
+use Rattle.std.proofs.Common.{◌≡◌, ◌<◌, ◌^◌, ℕ}
 use Rattle.std.specs.Prelude.{Some}
 use Rattle.chdr_words.specs.declared.epid.Epid.{Epid}
 use Rattle.net_topology.specs.Tree.{epid_at}

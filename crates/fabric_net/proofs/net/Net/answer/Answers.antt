@@ -1,4 +1,4 @@
-use Rattle.std.proofs.Common.{◌≡◌, arith, subst, sym}
+use Rattle.std.proofs.Common.{arith, subst, sym}
 use Rattle.std.proofs.lemmas.List.{length-map}
 use Rattle.net_machine.specs.Moves.{answered}
 use Rattle.net_present.specs.Present.{Present}

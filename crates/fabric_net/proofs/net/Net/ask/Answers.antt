@@ -1,4 +1,4 @@
-use Rattle.std.proofs.Common.{◌≡◌, ◌∙◌, arith, subst, sym}
+use Rattle.std.proofs.Common.{◌≡◌, arith, subst, sym}
 use Rattle.net_machine.specs.Moves.{asks}
 use Rattle.net_present.specs.Present.{Present}
 use Rattle.net_needs.specs.Staying.{IsCounted}

@@ -1,4 +1,4 @@
-use Rattle.std.proofs.Common.{◌≡◌, ◌∙◌, ◌<◌, List, ap, length, subst, sym}
+use Rattle.std.proofs.Common.{◌∙◌, ◌<◌, List, ap, length, subst, sym}
 use Rattle.net_present.specs.Kept.{now_at}
 use Rattle.fabric_parts.specs.Streams.{StreamSeen, tally_now}
 use Rattle.fabric_lists.specs.StreamsView.{streams_of}

@@ -1,6 +1,6 @@
 use Rattle.std.proofs.Common.{◌≡◌, ◌∙◌, ◌<◌, arith, length, true, subst, sym}
 use Rattle.fabric_events.proofs.Laws.{tx_there}
-use Rattle.fabric_events.specs.Fabrics.{is_tx_stream}
+use Rattle.fabric_lists.specs.Opened.{is_tx_stream}
 use Rattle.fabric_lists.specs.StreamsView.{now_in}
 use Rattle.fabric_net.specs.NetView.{NetSeen}
 use Rattle.std.proofs.lemmas.List.{length-map}
