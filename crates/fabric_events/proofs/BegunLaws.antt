@@ -27,7 +27,8 @@ use Rattle.net_machine.specs.declared.plan.RunPlan.{RunPlan}
 use Rattle.net_machine.specs.declared.plan.StreamPlan.{StreamPlan}
 use Rattle.net_present.specs.Kept.{IsStreamNow, block_now, block_now_at, idle_block, idle_now, line_by, now_at, stream_now}
 use Rattle.net_present.specs.Present.{BlockNow, StreamNow}
-use Rattle.fabric_events.specs.Begun.{BegunIsNow, BuiltIsNow, begun_now, built_now, opened_now, unfed}
+use Rattle.fabric_lists.specs.Opened.{opened_now, unfed}
+use Rattle.fabric_events.specs.Begun.{BegunIsNow, BuiltIsNow, begun_now, built_now}
 
 -- nothing was taken on a stream that begins, or isn't there
 module _ (plan : RunPlan) where

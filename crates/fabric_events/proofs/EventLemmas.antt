@@ -21,7 +21,8 @@ use Rattle.net_present.specs.StreamSteps.{readies_now}
 use Rattle.fabric_parts.specs.Streams.{StreamSeen}
 use Rattle.fabric_lists.specs.BlocksView.{block_in, blocks_of}
 use Rattle.net_present.specs.Present.{BlockNow, Present, StreamNow}
-use Rattle.fabric_events.specs.Fabrics.{IsSound, is_tx_stream, item_now, kind_now, kind_planned, present_of}
+use Rattle.fabric_lists.specs.Opened.{is_tx_stream}
+use Rattle.fabric_events.specs.Fabrics.{IsSound, item_now, kind_now, kind_planned, present_of}
 use Rattle.fabric_lists.specs.QueuesView.{QueuesSeen}
 use Rattle.fabric_lists.specs.StreamsView.{StreamsSeen, now_in, on_at, plan_in, plan_seen, streams_of, tx_seen}
 use Rattle.fabric_events.specs.declared.fabric.Fabric.{Fabric}

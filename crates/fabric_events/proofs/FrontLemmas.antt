@@ -16,7 +16,8 @@ use Rattle.net_present.specs.Present.{Present, front_now, front_now_of}
 use Rattle.fabric_nodes.specs.Shapes.{Shape, leaves_of, shape_at}
 use Rattle.fabric_nodes.proofs.Laws.{shapes_tell}
 use Rattle.fabric_events.specs.declared.fabric.Fabric.{Fabric}
-use Rattle.fabric_events.specs.Fabrics.{IsSound, is_tx_stream, present_of}
+use Rattle.fabric_lists.specs.Opened.{is_tx_stream}
+use Rattle.fabric_events.specs.Fabrics.{IsSound, present_of}
 use Rattle.fabric_lists.specs.StreamsView.{plan_in, streams_of, tx_seen}
 use Rattle.net_machine.specs.declared.plan.StreamPlan.{StreamPlan}
 use Rattle.fabric_lists.specs.SitesView.{no_shape, shape_in, shape_seen, sites_of}

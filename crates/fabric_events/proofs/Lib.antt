@@ -8,6 +8,4 @@ mod ChoosingLemmas
 mod EventLemmas
 mod HopLemmas
 mod BegunLemmas
-mod RoutedLemmas
-mod BuildLemmas
 mod BegunLaws

@@ -2,7 +2,6 @@
 use Rattle.std.proofs.Common.{◌≡◌, ℕ, ◌+◌, ◌<◌, Bool, true, false, List, [], ◌∷◌, length, refl, sym, ◌∙◌, ap, get_or, take, Option, None, Some}
 use Rattle.std.specs.Prelude.{◌==◌, fold, nat_lt, if◌then◌else◌}
 use Rattle.std.specs.Option.{option_and_then, option_map_or}
-use Rattle.std.proofs.lemmas.List.Sums.{fold_more}
 use Rattle.chdr_packets.specs.declared.packet.Body.{Body}
 use Rattle.chdr_packets.specs.declared.packet.Body.TheVariants as body
 use Rattle.chdr_packets.specs.declared.packet.Packet.{Packet}
@@ -36,7 +35,8 @@ use Rattle.fabric_events.specs.declared.fabric.Fabric.{Fabric}
 use Rattle.fabric_events.specs.Fabrics.{IsSound, present_of}
 use Rattle.fabric_lists.specs.SitesView.{shape_seen, sites_of}
 use Rattle.fabric_events.proofs.FrontLemmas.{shape_there}
-use Rattle.fabric_events.specs.Onward.{exit_after, exit_of_hop, hop_onward, leaving_over, link_onward, walking_of}
+use Rattle.fabric_nodes.specs.Exits.{exit_after, exit_of_hop, walking_of}
+use Rattle.fabric_events.specs.Onward.{hop_onward, leaving_over, link_onward}
 
 write-step : (b : Bool) (work : Work) (table : List Place) → (if b then record work { table = table } else work).exit ≡ work.exit
 write-step true work table = refl
@@ -79,15 +79,6 @@ by-shape tree x table dst (Some (Endpoint epid bank)) h = cc
 pub leaves_by_table : (tree : Plan) (x : ℕ) (table : List Place) (dst : Epid) → is_switch tree x ≡ true
     → leaves_of (shape_at tree x) table dst ≡ exit_of table dst
 leaves_by_table tree x table dst h = by-shape tree x table dst (planned tree x) h
-
--- the exit after one operation more
-pub hop_more : (site : Site) (ops : List MgmtOp) (i : ℕ) (exit next : Done) (o : Operation) (word : MgmtOp) → i < length ops
-    → exit ≡ exit_of_hop site (take i ops) → o ≡ operation_of (get_or ops i word) → next ≡ exit_after site exit o
-    → next ≡ exit_of_hop site (take (i + 1) ops)
-hop_more site ops i exit next o word there so_far is leads =
-    leads ∙ ap (λ (x : Operation). exit_after site exit x) is
-    ∙ ap (λ (e : Done). exit_after site e (operation_of (get_or ops i word))) so_far
-    ∙ sym (fold_more (λ e w. exit_after site e (operation_of w)) done.Dead ops i word there)
 
 -- where the table has a port, the packet goes on by it
 pub by_table : (f : Fabric) (x d port : ℕ) (dst : Epid) (next : Option ℕ) → IsSound f → x ≡ end_of f.wires.links d → x < length f.wires.nodes

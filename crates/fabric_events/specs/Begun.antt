@@ -1,18 +1,15 @@
 -- The present of a net as it is built, and as a run begins in it.
-use Rattle.std.specs.Prelude.{ℕ, Bool, List, [], length, map, replicate, Option}
+use Rattle.std.specs.Prelude.{Bool, List, [], length, map, replicate, Option}
 use Rattle.std.specs.List.{range_with_len}
-use Rattle.block_library.specs.Lines.{empty_line}
-use Rattle.block_library.specs.Memory.{kept_of, lists}
 use Rattle.block_registers.specs.Registers.{Registers}
 use Rattle.net_topology.specs.declared.plan.Plan.{Plan}
-use Rattle.net_machine.specs.Begin.{begun, built, built_node, no_plan, opened}
-use Rattle.net_machine.specs.Plans.{block_at}
+use Rattle.net_machine.specs.Begin.{begun, built, built_node, no_plan}
 use Rattle.net_machine.specs.Queues.{queue_count}
 use Rattle.net_machine.specs.State.{State}
 use Rattle.net_machine.specs.declared.plan.RunPlan.{RunPlan}
-use Rattle.net_machine.specs.declared.plan.StreamPlan.{StreamPlan}
-use Rattle.net_present.specs.Kept.{IsNow, stream_now}
-use Rattle.net_present.specs.Present.{BlockNow, Present, StreamNow}
+use Rattle.net_present.specs.Kept.{IsNow}
+use Rattle.net_present.specs.Present.{Present}
+use Rattle.fabric_lists.specs.Opened.{opened_now, unfed}
 
 -- a net as it is built, with routed or empty tables
 abbrev pub built_now : Plan → Bool → Present
@@ -26,17 +23,6 @@ built_now tree routed = record {
   faults = [];
   requests = 0;
   answers = 0;
-}
-
--- what is kept of a stream as it begins: none of its packets was offered
-abbrev pub opened_now : RunPlan → StreamPlan → StreamNow
-opened_now plan stream = stream_now 0 0 (opened plan stream)
-
--- what is kept of block b, to which nothing was fed
-abbrev pub unfed : RunPlan → ℕ → BlockNow
-unfed plan b = record {
-  kept = kept_of (block_at plan b).kind (block_at plan b).item (lists [] []);
-  line = empty_line b;
 }
 
 -- a run of a plan begins: its streams and blocks are new, and packets are counted anew; the rest stays

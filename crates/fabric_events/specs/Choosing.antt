@@ -6,7 +6,7 @@ use Rattle.net_machine.specs.Choice.{chosen_of, listing, seed_after}
 use Rattle.net_present.specs.Kept.{now_at}
 use Rattle.net_present.specs.Onward.{enabled_now}
 use Rattle.net_present.specs.Present.{Present, front_now}
-use Rattle.fabric_events.specs.Fabrics.{is_tx_stream}
+use Rattle.fabric_lists.specs.Opened.{is_tx_stream}
 use Rattle.fabric_events.specs.declared.candidates.Sizes.{Sizes}
 
 -- the next packet of stream s was offered, if a Tx makes it

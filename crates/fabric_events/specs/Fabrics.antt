@@ -1,20 +1,17 @@
 -- The parts of a net together: which present they are, and how they agree with its tree and its plan.
 use Rattle.std.specs.Prelude.{◌≡◌, ◌≤◌, ℕ, Bool, false, List, length, map}
-use Rattle.std.specs.List.{range_with_len}
 use Rattle.std.specs.Option.{option_map_or}
 use Rattle.block_library.specs.declared.kind.BlockKind.{BlockKind}
-use Rattle.net_topology.specs.declared.plan.Plan.{Plan}
 use Rattle.chdr_words.specs.declared.epid.Epid.{Epid}
 use Rattle.net_machine.specs.Blocks.{drained_by, is_finished}
 use Rattle.net_machine.specs.Front.{Front, front_at}
-use Rattle.net_machine.specs.Plans.{block_at, is_tx, producer_of, stream_to}
+use Rattle.net_machine.specs.Plans.{producer_of, stream_to}
 use Rattle.net_machine.specs.Queues.{queue_count}
 use Rattle.net_machine.specs.declared.plan.BlockPlan.{BlockPlan}
-use Rattle.net_machine.specs.declared.plan.RunPlan.{RunPlan}
 use Rattle.net_present.specs.Present.{BlockNow, Present}
-use Rattle.fabric_nodes.specs.Shapes.{Shape, shape_at}
 use Rattle.fabric_lists.specs.BlocksView.{blocks_of}
-use Rattle.fabric_lists.specs.SitesView.{sites_of}
+use Rattle.fabric_lists.specs.Opened.{txs_in}
+use Rattle.fabric_lists.specs.SitesView.{shapes_in, sites_of}
 use Rattle.fabric_lists.specs.StreamsView.{streams_of}
 use Rattle.fabric_events.specs.declared.fabric.Fabric.{Fabric}
 
@@ -31,18 +28,6 @@ present_of f = record {
   requests = f.requests;
   answers = f.answers;
 }
-
--- a Tx makes the packets of stream s
-abbrev pub is_tx_stream : RunPlan → ℕ → Bool
-is_tx_stream plan s = option_map_or (λ b. is_tx (block_at plan b).kind) (producer_of plan s) false
-
--- what each node of a tree is
-abbrev pub shapes_in : Plan → List Shape
-shapes_in tree = map (shape_at tree) (range_with_len 0 (length tree.nodes))
-
--- which streams of a plan a Tx fills
-abbrev pub txs_in : RunPlan → List Bool
-txs_in plan = map (is_tx_stream plan) (range_with_len 0 (length plan.streams))
 
 abbrev pub kind_now : BlockNow → BlockKind
 kind_now b = b.kept.kind

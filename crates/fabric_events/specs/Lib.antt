@@ -3,4 +3,3 @@ pub mod Fabrics
 pub mod Onward
 pub mod Choosing
 pub mod Begun
-pub mod Routed

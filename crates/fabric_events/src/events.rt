@@ -3,7 +3,6 @@ ghost use Rattle.std.specs.Prelude.{◌≡◌, ◌+◌, ◌-◌, ◌^◌, ◌<�
 ghost use Rattle.chdr_packets.specs.declared.packet.Packet.{Packet as PacketValue};
 ghost use Rattle.net_machine.specs.Conditions.{can_send};
 ghost use Rattle.net_machine.specs.Nodes.{route_from};
-ghost use Rattle.net_machine.specs.Passing.{message};
 ghost use Rattle.net_machine.specs.Plans.{first_link, plan_at};
 ghost use Rattle.net_machine.specs.Queues.{link_count, queue_of};
 ghost use Rattle.net_machine.specs.State.{node_in};
@@ -14,21 +13,22 @@ ghost use Rattle.net_present.specs.StreamSteps.{taken_now};
 ghost use Rattle.net_topology.specs.Links.{link_at};
 ghost use Rattle.stream_endpoint.specs.Receiver.{is_due};
 ghost use Rattle.stream_endpoint.specs.Sender.{state_of};
-ghost use Rattle.fabric_events.specs.Fabrics.{IsSound, is_tx_stream, present_of};
+ghost use Rattle.fabric_lists.specs.Opened.{is_tx_stream};
+ghost use Rattle.fabric_events.specs.Fabrics.{IsSound, present_of};
 ghost use Rattle.fabric_parts.specs.Ready.{most_offered};
 ghost use Rattle.fabric_parts.specs.Streams.{hands_now, offers_now};
 ghost use Rattle.fabric_lists.specs.SitesView.{sites_of};
 ghost use Rattle.fabric_lists.specs.StreamsView.{streams_of};
 
 use crate::fabric::Fabric;
-use crate::named;
 use chdr_packets::{Body, Packet};
-use chdr_words::{CmdOp, Epid};
+use chdr_words::CmdOp;
+use fabric_lists::stream_reads::{commands, sent, statuses};
 use fabric_lists::{sites, streams};
-use fabric_parts::{Entry, StreamPart};
-use plan_lookups::stream_at;
-use rf_base::{Items, Memory};
-use std::alloc::Global;
+use fabric_nodes::message;
+use fabric_parts::Entry;
+use plan_lookups::{named, stream_at};
+use rf_base::Memory;
 
 impl Fabric {
     /// A packet enters its first queue, that of a directed link and a channel, if there is such a link.
@@ -250,43 +250,4 @@ impl Fabric {
     {
         sites::ask(&mut self.sites, x, packet)
     }
-}
-
-/// What this project makes for an EPID on a channel, other than samples.
-pub(crate) fn message(alloc: Global, vc: u8, dst: Epid, body: Body) -> Packet
-    ensures { result ≡ message vc dst body }
-{
-    Packet {
-        vc,
-        eob: false,
-        eov: false,
-        seq: 0,
-        dst,
-        mdata: Items::new(alloc),
-        body,
-    }
-}
-
-/// How many packets of a stream were sent.
-fn sent(streams: &[StreamPart], s: usize) -> u64
-    requires { s < length streams.now }
-    ensures { result ≡ (now_at (streams_of streams.now).now s).sent }
-{
-    streams[s].sent()
-}
-
-/// How many commands were.
-fn commands(streams: &[StreamPart], s: usize) -> u64
-    requires { s < length streams.now }
-    ensures { result ≡ (now_at (streams_of streams.now).now s).commands }
-{
-    streams[s].commands()
-}
-
-/// How many statuses were.
-fn statuses(streams: &[StreamPart], s: usize) -> u64
-    requires { s < length streams.now }
-    ensures { result ≡ (now_at (streams_of streams.now).now s).statuses }
-{
-    streams[s].statuses()
 }

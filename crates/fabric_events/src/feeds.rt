@@ -9,7 +9,8 @@ ghost use Rattle.net_present.specs.Onward.{feeds_from_now, feeds_now, on_any_now
 ghost use Rattle.net_present.specs.StreamSteps.{readies_now};
 ghost use Rattle.fabric_parts.specs.Ready.{IsShort};
 ghost use Rattle.fabric_lists.specs.BlocksView.{blocks_of, made_of, made_seen};
-ghost use Rattle.fabric_events.specs.Fabrics.{IsSound, is_tx_stream, present_of};
+ghost use Rattle.fabric_lists.specs.Opened.{is_tx_stream};
+ghost use Rattle.fabric_events.specs.Fabrics.{IsSound, present_of};
 ghost use Rattle.fabric_lists.specs.StreamsView.{streams_of};
 
 use crate::fabric::Fabric;

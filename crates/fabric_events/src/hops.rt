@@ -24,12 +24,12 @@ ghost use Rattle.fabric_events.specs.Fabrics.{IsSound, present_of};
 ghost use Rattle.fabric_lists.specs.SitesView.{sites_of, spare_seen};
 ghost use Rattle.fabric_lists.specs.StreamsView.{streams_of};
 
-use crate::events::message;
 use crate::fabric::Fabric;
 use block_registers::{RegisterSlots, operate_fixed};
 use chdr_packets::{Body, Packet};
 use chdr_words::{Command, Control, Epid, Status};
 use fabric_lists::{blocks, sites, streams};
+use fabric_nodes::message;
 use fabric_parts::Entry;
 use net_topology::NodePlan;
 use plan_lookups::{block_on, stream_from, stream_to};

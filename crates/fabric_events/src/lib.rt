@@ -12,7 +12,6 @@ mod feeds;
 mod finished;
 mod hops;
 pub mod law;
-mod named;
 mod onward;
 mod orders;
 

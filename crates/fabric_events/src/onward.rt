@@ -1,9 +1,8 @@
 //! Over which link a packet goes on, as far as the parts tell.
-ghost use Rattle.std.specs.Prelude.{◌≡◌, ◌<◌, ◌≤◌, None, IfSome, length, option_copied};
+ghost use Rattle.std.specs.Prelude.{◌≡◌, ◌<◌, ◌≤◌, None, IfSome, length};
 ghost use Rattle.net_topology.specs.Leads.{sent_on};
 ghost use Rattle.net_topology.specs.Links.{end_of, end_port};
-ghost use Rattle.net_nodes.specs.Perform.{exit_by, first_hop};
-ghost use Rattle.net_nodes.specs.declared.site.Site.{Site};
+ghost use Rattle.net_nodes.specs.Perform.{first_hop};
 ghost use Rattle.net_machine.specs.declared.event.Event.TheVariants.{Hop};
 ghost use Rattle.net_machine.specs.Conditions.{has_way, may};
 ghost use Rattle.net_machine.specs.Nodes.{exits_of, site_at};
@@ -11,66 +10,16 @@ ghost use Rattle.net_machine.specs.Passing.{passing};
 ghost use Rattle.net_machine.specs.Queues.{channel_of, link_count, link_of_queue};
 ghost use Rattle.net_present.specs.Present.{front_now};
 ghost use Rattle.fabric_events.specs.Fabrics.{IsSound, present_of};
-ghost use Rattle.fabric_events.specs.Onward.{exit_after, exit_of_hop, hop_onward, leaving_over, link_onward, walking_of};
+ghost use Rattle.fabric_nodes.specs.Exits.{exit_of_hop};
+ghost use Rattle.fabric_events.specs.Onward.{hop_onward, leaving_over, link_onward};
 
 use crate::fabric::Fabric;
-use chdr_packets::{Body, Packet};
-use chdr_words::{Epid, Management, MgmtOp, Operation};
+use chdr_packets::Packet;
+use chdr_words::{Epid, Management};
 use fabric_lists::sites;
+use fabric_nodes::{Ports, first_hop, walking};
 use net_nodes::Done;
 use net_topology::NodePlan;
-
-/// The ports of a node that have a link, as bits, and the port by which a packet came.
-#[derive(Clone, Copy, Debug)]
-struct Ports {
-    linked: u32,
-    arrival: u8,
-}
-
-impl Ports {
-    /// The exit by a port: none where it has no link or is the port of arrival.
-    fn exit_by(self, port: u16) -> Done
-        ensures { (site : Site) → site.linked ≡ self.linked → site.arrival ≡ self.arrival → result ≡ exit_by site port }
-    {
-        let linked = port < 32 && (self.linked >> port) % 2 == 1;
-        if linked && port != self.arrival as u16 {
-            Done::Forward(port as u8)
-        } else {
-            Done::NoSuchPort(port)
-        }
-    }
-
-    /// The exit after one more operation.
-    fn exit_after(self, exit: Done, operation: Operation) -> Done
-        ensures { (site : Site) → site.linked ≡ self.linked → site.arrival ≡ self.arrival →
-            result ≡ exit_after site exit operation }
-    {
-        match operation {
-            Operation::SelectDest(port) => self.exit_by(port),
-            Operation::Return => Done::Return,
-            Operation::Nop
-            | Operation::Advertise
-            | Operation::InfoReq
-            | Operation::InfoResp(_)
-            | Operation::CfgWrite(_)
-            | Operation::CfgRead(_)
-            | Operation::CfgReadResp(_)
-            | Operation::Other(_) => exit,
-        }
-    }
-
-    /// The exit of a hop's operations.
-    fn exit_of_hop(self, ops: &[MgmtOp]) -> Done
-        ensures { (site : Site) → site.linked ≡ self.linked → site.arrival ≡ self.arrival →
-            result ≡ exit_of_hop site ops.now }
-    {
-        let mut exit = Done::Dead;
-        for op in ops {
-            exit = self.exit_after(exit, Operation::of(*op));
-        }
-        exit
-    }
-}
 
 impl Fabric {
     /// The ports of node x that have a link, where a packet came by `arrival`; an end node has none.
@@ -126,29 +75,7 @@ impl Fabric {
             Done::Return | Done::NoSuchPort(_) | Done::Dead => None,
         }
     }
-}
 
-/// What a packet asks of the nodes on its way: a management packet for no EPID.
-fn walking(packet: &Packet) -> Option<&Management>
-    ensures { option_copied result ≡ walking_of packet.now packet.now.body }
-{
-    match &packet.body {
-        Body::Management(m) => { if packet.dst.0 == 0 { Some(m) } else { None } }
-        Body::Samples { .. } | Body::Status(_) | Body::Command(_) | Body::Control(_) => None,
-    }
-}
-
-/// The operations of a packet's first hop.
-fn first_hop(m: &Management) -> &[MgmtOp]
-    ensures { result.now ≡ first_hop m.now }
-{
-    match m.hops.as_slice() {
-        [] => &[],
-        [first, ..] => first.as_slice(),
-    }
-}
-
-impl Fabric {
     /// The link over which a packet that came over d goes on, if it does.
     #[tactic(auto, using(crate::proofs::OnwardLemmas::onward_tabled, crate::proofs::OnwardLemmas::onward_walked))]
     pub(crate) fn onward(&self, d: u16, packet: &Packet) -> Option<u16>

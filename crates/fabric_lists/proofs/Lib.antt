@@ -2,3 +2,6 @@ mod PartLemmas
 mod StreamLemmas
 mod SiteLemmas
 mod BlockLemmas
+mod RoutedLemmas
+mod BuildLemmas
+mod OpenedLemmas

@@ -2,3 +2,5 @@ pub mod QueuesView
 pub mod StreamsView
 pub mod SitesView
 pub mod BlocksView
+pub mod Routed
+pub mod Opened

@@ -1,9 +1,11 @@
 -- The nodes of a network as contracts see them.
-use Rattle.std.specs.Prelude.{ℕ, List, map, slice_index_or, slice_set}
+use Rattle.std.specs.Prelude.{ℕ, List, length, map, slice_index_or, slice_set}
+use Rattle.std.specs.List.{range_with_len}
 use Rattle.net_machine.specs.Plans.{no_epid}
 use Rattle.net_machine.specs.State.{Node, node_in}
 use Rattle.net_nodes.specs.declared.end_node.EndNode.{EndNode}
-use Rattle.fabric_nodes.specs.Shapes.{Shape, Ends}
+use Rattle.net_topology.specs.declared.plan.Plan.{Plan}
+use Rattle.fabric_nodes.specs.Shapes.{Shape, Ends, shape_at}
 use Rattle.fabric_nodes.specs.Sites.{node_of}
 use Rattle.fabric_nodes.specs.declared.node.Site.{Site}
 
@@ -26,6 +28,10 @@ spare_in site = record { pending = site.pending.spare; answers = site.answers.sp
 
 abbrev pub sites_of : List Site → SitesSeen
 sites_of sites = record { nodes = map node_of sites; shapes = map shape_in sites; spares = map spare_in sites }
+
+-- what each node of a tree is
+abbrev pub shapes_in : Plan → List Shape
+shapes_in tree = map (shape_at tree) (range_with_len 0 (length tree.nodes))
 
 -- what stands for a node that isn't there
 abbrev pub no_shape : Shape

@@ -123,3 +123,27 @@ pub fn is_handed(streams: &[StreamPart], s: usize, n: u64) -> bool
 {
     n <= streams[s].handed()
 }
+
+/// How many packets of a stream were sent.
+pub fn sent(streams: &[StreamPart], s: usize) -> u64
+    requires { s < length streams.now }
+    ensures { result ≡ (now_at (streams_of streams.now).now s).sent }
+{
+    streams[s].sent()
+}
+
+/// How many commands of a stream were sent.
+pub fn commands(streams: &[StreamPart], s: usize) -> u64
+    requires { s < length streams.now }
+    ensures { result ≡ (now_at (streams_of streams.now).now s).commands }
+{
+    streams[s].commands()
+}
+
+/// How many statuses of a stream were sent.
+pub fn statuses(streams: &[StreamPart], s: usize) -> u64
+    requires { s < length streams.now }
+    ensures { result ≡ (now_at (streams_of streams.now).now s).statuses }
+{
+    streams[s].statuses()
+}

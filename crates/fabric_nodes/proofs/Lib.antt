@@ -1,4 +1,5 @@
 pub mod Laws
 pub mod NodeLemmas
+pub mod PortLemmas
 pub mod ShapeLaws
 pub mod WiresLemmas

@@ -1,3 +1,4 @@
+pub mod Exits
 pub mod Lookups
 pub mod NodeView
 pub mod Packets

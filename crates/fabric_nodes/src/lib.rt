@@ -2,12 +2,16 @@
 #![tactic(auto)]
 
 pub mod law;
+mod messages;
 mod node;
 mod packets;
+mod ports;
 mod wires;
 
+pub use messages::message;
 pub use node::{NodePart, Site};
 pub use packets::Packets;
+pub use ports::{Ports, first_hop, walking};
 pub use wires::Wires;
 
 #[cfg(test)]

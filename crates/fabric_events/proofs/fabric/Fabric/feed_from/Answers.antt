@@ -8,7 +8,8 @@ use Rattle.net_present.specs.Present.{Present, StreamNow}
 use Rattle.net_present.specs.StreamSteps.{fed_now}
 use Rattle.fabric_parts.specs.Ready.{IsShort}
 use Rattle.fabric_lists.specs.BlocksView.{blocks_of}
-use Rattle.fabric_events.specs.Fabrics.{is_tx_stream, present_of}
+use Rattle.fabric_lists.specs.Opened.{is_tx_stream}
+use Rattle.fabric_events.specs.Fabrics.{present_of}
 use Rattle.fabric_lists.specs.StreamsView.{StreamsSeen, streams_of}
 use Rattle.fabric_events.proofs.fabric.Fabric.feed_from.Goals as goal
 use Rattle.fabric_events.proofs.EventLemmas.{Fills, count_kept, on_some, ready_beside, ready_kept, sound_fed, stream_count}

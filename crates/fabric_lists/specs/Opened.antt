@@ -1,0 +1,31 @@
+-- What is made of a plan as a run of it begins, and which of its streams a Tx fills.
+use Rattle.std.specs.Prelude.{ℕ, Bool, false, List, [], length, map}
+use Rattle.std.specs.List.{range_with_len}
+use Rattle.std.specs.Option.{option_map_or}
+use Rattle.block_library.specs.Lines.{empty_line}
+use Rattle.block_library.specs.Memory.{kept_of, lists}
+use Rattle.net_machine.specs.Begin.{opened}
+use Rattle.net_machine.specs.Plans.{block_at, is_tx, producer_of}
+use Rattle.net_machine.specs.declared.plan.RunPlan.{RunPlan}
+use Rattle.net_machine.specs.declared.plan.StreamPlan.{StreamPlan}
+use Rattle.net_present.specs.Kept.{stream_now}
+use Rattle.net_present.specs.Present.{BlockNow, StreamNow}
+
+-- a Tx makes the packets of stream s
+abbrev pub is_tx_stream : RunPlan → ℕ → Bool
+is_tx_stream plan s = option_map_or (λ b. is_tx (block_at plan b).kind) (producer_of plan s) false
+
+-- which streams of a plan a Tx fills
+abbrev pub txs_in : RunPlan → List Bool
+txs_in plan = map (is_tx_stream plan) (range_with_len 0 (length plan.streams))
+
+-- what is kept of a stream as it begins: none of its packets was offered
+abbrev pub opened_now : RunPlan → StreamPlan → StreamNow
+opened_now plan stream = stream_now 0 0 (opened plan stream)
+
+-- what is kept of block b, to which nothing was fed
+abbrev pub unfed : RunPlan → ℕ → BlockNow
+unfed plan b = record {
+  kept = kept_of (block_at plan b).kind (block_at plan b).item (lists [] []);
+  line = empty_line b;
+}
