@@ -1,5 +1,5 @@
 -- A net as it is built, and as a run begins in it, is the present of the machine's state.
-use Rattle.std.proofs.Common.{◌≡◌, ℕ, zero, suc, ◌+◌, ◌<◌, ◌≤◌, Bool, true, false, List, [], ◌∷◌, length, refl, sym, ◌∙◌, ap, get_or, inl, inr, Option, None, Some, arith}
+use Rattle.std.proofs.Common.{◌≡◌, ℕ, zero, suc, ◌≤◌, Bool, true, false, List, [], ◌∷◌, length, refl, sym, ◌∙◌, ap, get_or, inl, inr, Option, None, Some, arith}
 use Rattle.std.specs.Prelude.{map, replicate, if◌then◌else◌}
 use Rattle.std.specs.List.{range_with_len}
 use Rattle.std.specs.Option.{option_map_or}
@@ -15,12 +15,12 @@ use Rattle.block_library.specs.declared.kind.BlockKind.{BlockKind}
 use Rattle.block_library.specs.declared.kind.BlockKind.TheVariants.{Tx, Rx, Fifo, Split, Keep, Repeat, Replay, Switch, Sink}
 use Rattle.block_library.specs.declared.line.Line.{Line}
 use Rattle.chdr_packets.specs.declared.packet.Packet.{Packet}
-use Rattle.net_machine.specs.Begin.{begun, built, opened}
+use Rattle.net_machine.specs.Begin.{begun, opened}
 use Rattle.net_machine.specs.Blocks.{fed_to}
 use Rattle.net_machine.specs.Front.{queued}
 use Rattle.net_machine.specs.Plans.{block_at, is_rx, no_block, stream_into}
 use Rattle.net_machine.specs.Queues.{queue_count}
-use Rattle.net_machine.specs.State.{Entry, State, Stream, idle, stream_at}
+use Rattle.net_machine.specs.State.{State, idle}
 use Rattle.net_machine.specs.Streams.{taken_of}
 use Rattle.net_machine.specs.declared.plan.BlockPlan.{BlockPlan}
 use Rattle.net_machine.specs.declared.plan.RunPlan.{RunPlan}
@@ -28,7 +28,7 @@ use Rattle.net_machine.specs.declared.plan.StreamPlan.{StreamPlan}
 use Rattle.net_present.specs.Kept.{IsStreamNow, block_now, block_now_at, idle_block, idle_now, line_by, now_at, stream_now}
 use Rattle.net_present.specs.Present.{BlockNow, StreamNow}
 use Rattle.fabric_lists.specs.Opened.{opened_now, unfed}
-use Rattle.fabric_events.specs.Begun.{BegunIsNow, BuiltIsNow, begun_now, built_now}
+use Rattle.fabric_events.specs.Begun.{BegunIsNow, BuiltIsNow}
 
 -- nothing was taken on a stream that begins, or isn't there
 module _ (plan : RunPlan) where

@@ -1,5 +1,5 @@
 -- A part of a fabric changes, and the fabric stays sound.
-use Rattle.std.proofs.Common.{◌≡◌, ℕ, zero, suc, ◌+◌, ◌*◌, ◌<◌, List, [], ◌∷◌, ◌++◌, length, refl, sym, ◌∙◌, ap, subst, get_or, set, Option, None, Some, Bool, false, IsTrue, arith}
+use Rattle.std.proofs.Common.{◌≡◌, ℕ, zero, suc, ◌<◌, List, [], ◌∷◌, length, refl, sym, ◌∙◌, ap, subst, set, Option, None, Some, Bool, false, IsTrue, arith}
 use Rattle.std.specs.Prelude.{All, IfSome, map}
 use Rattle.std.proofs.Math.Seq.{map-set_same}
 use Rattle.block_library.specs.Memory.{after_feed}
@@ -13,7 +13,6 @@ use Rattle.net_machine.specs.Conditions.{can_send}
 use Rattle.net_machine.specs.Front.{Queued, StreamFront}
 use Rattle.net_machine.specs.Plans.{plan_at}
 use Rattle.net_machine.specs.declared.plan.StreamPlan.{StreamPlan}
-use Rattle.net_machine.specs.Queues.{queue_count}
 use Rattle.block_library.specs.declared.kind.BlockKind.{BlockKind}
 use Rattle.net_present.specs.Kept.{block_now_at, idle_block, idle_now, now_at}
 use Rattle.net_present.specs.Onward.{block_fed, enters_over_now, on_any_now, on_now}

@@ -1,6 +1,6 @@
 -- What conditions read of a stream that stands in a present.
-use Rattle.std.proofs.Common.{◌≡◌, ℕ, ◌<◌, Bool, true, false, List, length, refl, sym, ◌∙◌, ap, subst, get_or, arith}
-use Rattle.std.specs.Prelude.{◌&&◌, map}
+use Rattle.std.proofs.Common.{◌≡◌, ℕ, ◌<◌, Bool, true, false, List, length, refl, sym, ◌∙◌, ap, subst, arith}
+use Rattle.std.specs.Prelude.{◌&&◌}
 use Rattle.std.specs.List.{range_with_len}
 use Rattle.std.specs.Option.{option_and_then}
 use Rattle.std.proofs.Math.ListN.{get_or-map}
@@ -8,7 +8,7 @@ use Rattle.std.proofs.lemmas.List.{length-map}
 use Rattle.std.proofs.lemmas.List.FromFn.{get_or-map-range_with_len, length-range_with_len}
 use Rattle.chdr_words.specs.declared.epid.Epid.{Epid}
 use Rattle.net_topology.specs.Links.{link_at}
-use Rattle.net_machine.specs.Front.{StreamFront, front_at, stream_front}
+use Rattle.net_machine.specs.Front.{front_at}
 use Rattle.net_machine.specs.Nodes.{route_from}
 use Rattle.net_machine.specs.State.{node_in}
 use Rattle.net_present.specs.Kept.{idle_now, now_at}

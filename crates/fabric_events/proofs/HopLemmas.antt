@@ -20,7 +20,7 @@ use Rattle.net_machine.specs.Passing.{Outcome, Passes, Arrives, Ends as Gone, by
 use Rattle.net_machine.specs.Plans.{no_epid}
 use Rattle.net_machine.specs.Queues.{queue_of}
 use Rattle.net_machine.specs.State.{Node, node_in}
-use Rattle.fabric_nodes.specs.Shapes.{Shape, Ends, leaves_of, shape_at, shape_by}
+use Rattle.fabric_nodes.specs.Shapes.{Shape, Ends, leaves_of, shape_by}
 use Rattle.fabric_events.specs.declared.fabric.Fabric.{Fabric}
 use Rattle.fabric_events.specs.Fabrics.{IsSound}
 use Rattle.fabric_lists.specs.SitesView.{shape_seen, sites_of}

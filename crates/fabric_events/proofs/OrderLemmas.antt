@@ -1,5 +1,5 @@
 -- Which commands may be sent, by the sender and by what the network tells of its stream.
-use Rattle.std.proofs.Common.{◌≡◌, ℕ, ◌≤◌, Bool, true, false, List, [], ◌∷◌, length, refl, sym, ◌∙◌, ap, subst}
+use Rattle.std.proofs.Common.{◌≡◌, ℕ, Bool, true, false, List, [], ◌∷◌, refl, sym, ◌∙◌, ap}
 use Rattle.std.specs.Prelude.{◌&&◌, ◌||◌, not}
 use Rattle.chdr_packets.specs.declared.packet.Packet.{Packet}
 use Rattle.chdr_words.specs.declared.command.CmdOp.{CmdOp}
@@ -7,7 +7,7 @@ use Rattle.chdr_words.specs.declared.command.CmdOp.TheVariants.{Init, Ping, Resy
 use Rattle.stream_endpoint.specs.Orders.{may_order}
 use Rattle.stream_endpoint.specs.Orders as rule
 use Rattle.stream_endpoint.specs.Counts.{is_none}
-use Rattle.stream_endpoint.specs.Sender.{Sender, is_running}
+use Rattle.stream_endpoint.specs.Sender.{is_running}
 use Rattle.stream_endpoint.specs.declared.flow.Flow.{Flow}
 use Rattle.stream_endpoint.specs.declared.state.OutState.{OutState}
 use Rattle.stream_endpoint.specs.declared.state.OutState.TheVariants.{Opening, Running, Halted, Resyncing}
@@ -15,7 +15,7 @@ use Rattle.net_machine.specs.Blocks.{is_closed}
 use Rattle.net_machine.specs.Conditions.{can_order, is_opening, is_quiet, is_resyncing, is_stuck}
 use Rattle.net_machine.specs.Front.{Front, StreamFront, front_at}
 use Rattle.net_machine.specs.Plans.{plan_at}
-use Rattle.net_present.specs.Kept.{idle_now, now_at}
+use Rattle.net_present.specs.Kept.{now_at}
 use Rattle.net_present.specs.Present.{Present, StreamNow, front_now, front_now_of}
 use Rattle.fabric_events.proofs.FrontLemmas.{and_false, front_of_stream}
 

@@ -1,12 +1,11 @@
 -- Which event stands at a place of the order in which a choice looks at events.
-use Rattle.std.proofs.Common.{◌≡◌, ℕ, zero, suc, ◌+◌, ◌-◌, ◌*◌, ◌<◌, ◌≤◌, List, [], ◌∷◌, ◌++◌, length, refl, sym, ◌∙◌, ap, subst, Option, None, Some, arith}
+use Rattle.std.proofs.Common.{◌≡◌, ℕ, zero, suc, ◌+◌, ◌-◌, ◌*◌, ◌<◌, ◌≤◌, List, [], ◌∷◌, ◌++◌, length, refl, sym, ◌∙◌, ap, Option, Some, arith}
 use Rattle.std.specs.Prelude.{◌/◌, ◌%◌, map, slice_get}
 use Rattle.std.specs.List.{flat_map, range_with_len}
 use Rattle.std.proofs.lemmas.List.{length-append, length-map}
 use Rattle.std.proofs.lemmas.List.FromFn.{length-range_with_len}
-use Rattle.chdr_words.specs.declared.command.CmdOp.TheVariants.{Init, Ping, Resync}
 use Rattle.net_machine.specs.declared.event.Event.{Event}
-use Rattle.net_machine.specs.declared.event.Event.TheVariants.{Ask, Command, Enter, Feed, Hop, Lose, Reply, Report}
+use Rattle.net_machine.specs.declared.event.Event.TheVariants.{Ask, Enter, Hop, Lose, Reply, Report}
 use Rattle.net_machine.specs.Choice.{commands_of, feeds_of, for_each}
 use Rattle.fabric_events.specs.declared.candidates.Sizes.{Sizes}
 use Rattle.fabric_events.specs.Sizes.{candidate_count, candidates_in}

@@ -1,5 +1,5 @@
 -- How many streams, blocks, nodes and queues a fabric has.
-use Rattle.std.proofs.Common.{◌≡◌, ℕ, ◌*◌, ◌≤◌, List, length, sym, ◌∙◌, ap, arith}
+use Rattle.std.proofs.Common.{◌≡◌, ℕ, ◌*◌, ◌≤◌, length, sym, ◌∙◌, ap, arith}
 use Rattle.std.proofs.lemmas.List.{length-map}
 use Rattle.net_topology.specs.Tree.{IsChecked}
 use Rattle.net_topology.specs.declared.plan.Plan.{Plan}

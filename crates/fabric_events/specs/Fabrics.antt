@@ -1,5 +1,5 @@
 -- The parts of a net together: which present they are, and how they agree with its tree and its plan.
-use Rattle.std.specs.Prelude.{◌≡◌, ◌≤◌, ℕ, Bool, false, List, length, map}
+use Rattle.std.specs.Prelude.{◌≡◌, ◌≤◌, ℕ, Bool, false, length, map}
 use Rattle.std.specs.Option.{option_map_or}
 use Rattle.block_library.specs.declared.kind.BlockKind.{BlockKind}
 use Rattle.chdr_words.specs.declared.epid.Epid.{Epid}

@@ -1,9 +1,8 @@
 -- Blocks at their places, seen through what contracts read of each.
-use Rattle.std.proofs.Common.{◌≡◌, ℕ, ◌<◌, List, length, sym, ◌∙◌, ap, subst, get_or, set, Option, None}
+use Rattle.std.proofs.Common.{◌≡◌, ℕ, ◌<◌, List, length, sym, ◌∙◌, ap, subst, get_or, set, None}
 use Rattle.std.specs.Prelude.{map}
 use Rattle.std.proofs.Math.Seq.{map-set_same}
 use Rattle.std.proofs.lemmas.List.{map-set, get_or-map, get_or-set_same, length-set}
-use Rattle.block_library.specs.Memory.{Prepared}
 use Rattle.net_present.specs.Kept.{block_now_at, idle_block}
 use Rattle.net_present.specs.Present.{BlockNow}
 use Rattle.fabric_parts.specs.Blocks.{BlockSeen}

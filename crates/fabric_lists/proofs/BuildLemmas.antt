@@ -1,6 +1,6 @@
 -- The nodes of a net as it is built.
-use Rattle.std.proofs.Common.{◌≡◌, ℕ, ◌*◌, ◌<◌, ◌≤◌, Bool, true, false, List, [], ◌∷◌, length, refl, sym, ◌∙◌, ap, subst, Option, None, Some, arith}
-use Rattle.std.specs.Prelude.{map, slice_get, if◌then◌else◌}
+use Rattle.std.proofs.Common.{◌≡◌, ℕ, ◌<◌, true, false, List, [], ◌∷◌, length, refl, ◌∙◌, ap, subst, Option, None, Some}
+use Rattle.std.specs.Prelude.{map, if◌then◌else◌}
 use Rattle.std.specs.Option.{option_map_or}
 use Rattle.chdr_packets.specs.declared.packet.Packet.{Packet}
 use Rattle.net_machine.specs.Begin.{built_node, epids_of, exit_to, place_for}
@@ -9,7 +9,7 @@ use Rattle.net_machine.specs.Plans.{no_epid}
 use Rattle.net_machine.specs.State.{Node, blank}
 use Rattle.net_nodes.specs.declared.table.Place.{Place}
 use Rattle.net_topology.specs.Leads.{has_table}
-use Rattle.net_topology.specs.Links.{IsWay, start_of, start_port}
+use Rattle.net_topology.specs.Links.{IsWay, start_port}
 use Rattle.net_topology.specs.Parts.{way_of}
 use Rattle.net_topology.specs.Tree.{IsTree, port_count, ports_of}
 use Rattle.net_topology.specs.declared.plan.NodePlan.{NodePlan}

@@ -5,10 +5,9 @@ use Rattle.std.proofs.Math.Seq.{map-set_same}
 use Rattle.std.proofs.lemmas.List.{map-set, get_or-map}
 use Rattle.chdr_packets.specs.declared.packet.Packet.{Packet}
 use Rattle.net_machine.specs.State.{Node, blank, node_in}
-use Rattle.fabric_nodes.specs.Shapes.{Shape}
 use Rattle.fabric_nodes.specs.Sites.{node_of}
 use Rattle.fabric_nodes.specs.declared.node.Site.{Site}
-use Rattle.fabric_lists.specs.SitesView.{Spare, no_shape, no_spare, on_site, shape_in, shape_seen, sites_of, spare_in, spare_seen}
+use Rattle.fabric_lists.specs.SitesView.{no_shape, no_spare, on_site, shape_in, shape_seen, sites_of, spare_in, spare_seen}
 
 -- a node that was read is the one that contracts see at its place
 pub record Found (parts : List Site) (x : ℕ) (part : Site) : Type 0 where

@@ -1,5 +1,5 @@
 -- Streams at their places, seen through what contracts read of each.
-use Rattle.std.proofs.Common.{◌≡◌, ℕ, ◌<◌, ◌≤◌, Bool, false, List, length, refl, sym, ◌∙◌, ap, subst, get_or, set}
+use Rattle.std.proofs.Common.{◌≡◌, ℕ, ◌<◌, ◌≤◌, Bool, false, List, length, sym, ◌∙◌, ap, subst, get_or, set}
 use Rattle.std.specs.Prelude.{map}
 use Rattle.std.proofs.Math.ListN.{get_or-eq_default}
 use Rattle.std.proofs.Math.Seq.{map-set_same}
@@ -9,8 +9,7 @@ use Rattle.net_machine.specs.declared.plan.StreamPlan.{StreamPlan}
 use Rattle.net_present.specs.Kept.{idle_now, now_at}
 use Rattle.net_present.specs.Present.{StreamNow}
 use Rattle.fabric_parts.specs.Streams.{StreamSeen, on_stream}
-use Rattle.fabric_lists.specs.StreamsView.{StreamsSeen, now_in, on_at, plan_in, plan_seen, streams_of, tx_in, tx_seen}
-use Rattle.fabric_lists.proofs.PartLemmas.{read-at, read-set}
+use Rattle.fabric_lists.specs.StreamsView.{now_in, on_at, plan_in, plan_seen, streams_of, tx_in, tx_seen}
 
 -- what is read at a place of a list that is there
 read : {A : Type 0} (seen : StreamSeen → A) (parts : List StreamSeen) (s : ℕ) (part : StreamSeen) (none : A) → s < length parts

@@ -3,7 +3,6 @@ use Rattle.std.specs.Prelude.{ℕ, List, length, map, slice_index_or, slice_set}
 use Rattle.std.specs.List.{range_with_len}
 use Rattle.net_machine.specs.Plans.{no_epid}
 use Rattle.net_machine.specs.State.{Node, node_in}
-use Rattle.net_nodes.specs.declared.end_node.EndNode.{EndNode}
 use Rattle.net_topology.specs.declared.plan.Plan.{Plan}
 use Rattle.fabric_nodes.specs.Shapes.{Shape, Ends, shape_at}
 use Rattle.fabric_nodes.specs.Sites.{node_of}

@@ -2,7 +2,7 @@
 use Rattle.std.specs.Prelude.{ℕ, Bool, false, List, map, slice_index_or, slice_set}
 use Rattle.net_machine.specs.Plans.{no_stream}
 use Rattle.net_machine.specs.declared.plan.StreamPlan.{StreamPlan}
-use Rattle.net_present.specs.Kept.{idle_now, now_at}
+use Rattle.net_present.specs.Kept.{now_at}
 use Rattle.net_present.specs.Present.{StreamNow}
 use Rattle.fabric_parts.specs.Streams.{StreamSeen}
 

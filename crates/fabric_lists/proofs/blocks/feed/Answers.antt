@@ -1,4 +1,4 @@
-use Rattle.std.proofs.Common.{◌≡◌, ◌∙◌, ap}
+use Rattle.std.proofs.Common.{◌∙◌, ap}
 use Rattle.net_present.specs.Present.{BlockNow}
 use Rattle.net_present.specs.Kept.{block_now_at}
 use Rattle.net_present.specs.Onward.{block_fed}

@@ -1,6 +1,6 @@
-use Rattle.std.proofs.Common.{◌≡◌, ◌∙◌, Bool, List, sym, ap}
+use Rattle.std.proofs.Common.{◌∙◌, Bool, List, sym, ap}
 use Rattle.chdr_words.specs.declared.epid.Epid.{Epid}
-use Rattle.net_machine.specs.Begin.{built_node, epids_of, exit_to}
+use Rattle.net_machine.specs.Begin.{built_node, exit_to}
 use Rattle.net_machine.specs.State.{Node, blank}
 use Rattle.net_nodes.specs.declared.table.Place.{Place}
 use Rattle.net_topology.specs.declared.plan.Plan.{Plan}

@@ -1,4 +1,4 @@
-use Rattle.std.proofs.Common.{◌≡◌, ◌<◌, ◌∙◌, length, sym, ap, arith}
+use Rattle.std.proofs.Common.{◌<◌, ◌∙◌, length, sym, ap, arith}
 use Rattle.fabric_nodes.specs.Shapes.{NodeSeen}
 use Rattle.fabric_lists.proofs.RoutedLemmas.{none-entered, port-entered}
 use Rattle.fabric_lists.proofs.build.route.Goals as goal

@@ -1,12 +1,10 @@
-use Rattle.std.proofs.Common.{◌≡◌, List, [], ◌∷◌, ◌++◌, ◌∙◌, sym, ap, refl}
-use Rattle.std.specs.Prelude.{drop}
+use Rattle.std.proofs.Common.{List, [], ◌∷◌, ◌++◌, ap, refl}
 use Rattle.chdr_packets.specs.declared.packet.Packet.{Packet}
-use Rattle.net_machine.specs.State.{Node}
 use Rattle.fabric_nodes.specs.Sites.{node_of}
 use Rattle.fabric_nodes.specs.declared.node.Site.{Site}
-use Rattle.fabric_lists.specs.SitesView.{shape_in, spare_in}
+use Rattle.fabric_lists.specs.SitesView.{shape_in}
 use Rattle.fabric_lists.proofs.sites.pend.Goals as goal
-use Rattle.fabric_lists.proofs.SiteLemmas.{found, node-set, seen-same, taken}
+use Rattle.fabric_lists.proofs.SiteLemmas.{node-set, seen-same}
 
 pub returns-clause-nodes : goal.returns-clause-nodes
 returns-clause-nodes c =

@@ -1,17 +1,13 @@
-use Rattle.std.proofs.Common.{◌≡◌, List, [], ◌∷◌, ◌++◌, ◌∙◌, sym, ap, subst, refl, ◌<◌, ℕ}
-use Rattle.std.specs.Prelude.{drop}
-use Rattle.chdr_packets.specs.declared.packet.Packet.{Packet}
-use Rattle.chdr_words.specs.declared.management.Management.{Management}
-use Rattle.net_nodes.specs.Perform.{Work, last_hop, performed}
+use Rattle.std.proofs.Common.{◌≡◌, List, ◌∙◌, ap, refl}
+use Rattle.net_nodes.specs.Perform.{Work, performed}
 use Rattle.net_nodes.specs.declared.table.Place.{Place}
 use Rattle.fabric_nodes.specs.Shapes.{Shape, site_of}
 use Rattle.fabric_lists.specs.SitesView.{shape_seen, sites_of}
-use Rattle.net_machine.specs.State.{Node}
 use Rattle.fabric_nodes.specs.Sites.{node_of}
 use Rattle.fabric_nodes.specs.declared.node.Site.{Site}
-use Rattle.fabric_lists.specs.SitesView.{Spare, shape_in, spare_in}
+use Rattle.fabric_lists.specs.SitesView.{shape_in, spare_in}
 use Rattle.fabric_lists.proofs.sites.perform.Goals as goal
-use Rattle.fabric_lists.proofs.SiteLemmas.{found, node-set, on-err, on-ok, seen-same, spare-there, taken}
+use Rattle.fabric_lists.proofs.SiteLemmas.{found, node-set, seen-same}
 
 pub returns-clause-nodes : goal.returns-clause-nodes
 returns-clause-nodes c =

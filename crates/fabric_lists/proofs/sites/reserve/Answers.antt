@@ -1,12 +1,10 @@
-use Rattle.std.proofs.Common.{◌≡◌, List, [], ◌∷◌, ◌++◌, ◌∙◌, sym, ap, subst, refl, ◌<◌, ℕ}
-use Rattle.std.specs.Prelude.{drop}
+use Rattle.std.proofs.Common.{List, ◌∙◌, sym, ap, subst, refl, ◌<◌}
 use Rattle.chdr_packets.specs.declared.packet.Packet.{Packet}
-use Rattle.net_machine.specs.State.{Node}
 use Rattle.fabric_nodes.specs.Sites.{node_of}
 use Rattle.fabric_nodes.specs.declared.node.Site.{Site}
-use Rattle.fabric_lists.specs.SitesView.{Spare, shape_in, spare_in}
+use Rattle.fabric_lists.specs.SitesView.{Spare, shape_in}
 use Rattle.fabric_lists.proofs.sites.reserve.Goals as goal
-use Rattle.fabric_lists.proofs.SiteLemmas.{found, node-set, on-err, on-ok, seen-same, spare-there, taken}
+use Rattle.fabric_lists.proofs.SiteLemmas.{on-ok, seen-same, spare-there}
 
 pub returns-in_err-reserve-clause-nodes : goal.returns-in_err-reserve-clause-nodes
 returns-in_err-reserve-clause-nodes c =

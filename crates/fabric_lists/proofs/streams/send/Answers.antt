@@ -1,5 +1,4 @@
-use Rattle.std.proofs.Common.{◌≡◌, List, [], ◌∷◌, ◌∙◌, sym, ap}
-use Rattle.chdr_packets.specs.declared.packet.Packet.{Packet}
+use Rattle.std.proofs.Common.{◌≡◌, ◌∷◌, ◌∙◌, ap}
 use Rattle.net_machine.specs.Streams.{numbered}
 use Rattle.net_machine.specs.declared.plan.StreamPlan.{StreamPlan}
 use Rattle.net_present.specs.Present.{StreamNow}

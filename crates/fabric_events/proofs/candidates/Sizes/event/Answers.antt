@@ -1,9 +1,6 @@
-use Rattle.std.proofs.Common.{◌≡◌, ◌<◌, ℕ, length, slice_get, Some, ◌+◌, ◌-◌, ◌*◌, ◌≤◌, ◌/◌, ◌%◌, zero, suc, refl, ◌∙◌, ap, Option, arith}
-use Rattle.std.specs.List.{flat_map, range_with_len}
-use Rattle.net_machine.specs.declared.event.Event.{Event}
-use Rattle.net_machine.specs.declared.event.Event.TheVariants.{Ask, Command, Enter, Feed, Hop, Lose, Reply, Report}
-use Rattle.net_machine.specs.Choice.{commands_of, feeds_of, for_each}
-use Rattle.fabric_events.specs.Sizes.{candidate_count, candidates_in}
+use Rattle.std.proofs.Common.{◌≡◌, ◌<◌, ℕ, slice_get, Some, ◌-◌, ◌*◌, ◌≤◌, ◌/◌, ◌%◌, zero, suc, refl, ◌∙◌, arith}
+use Rattle.net_machine.specs.declared.event.Event.TheVariants.{Ask, Enter, Feed, Hop, Lose, Reply, Report}
+use Rattle.net_machine.specs.Choice.{feeds_of}
 use Rattle.fabric_events.proofs.candidates.Sizes.event.Goals as goal
 use Rattle.fabric_events.proofs.PlaceLemmas.{among, behind, commands_at, commands_length, each_at, each_length, feeds_at, feeds_length}
 

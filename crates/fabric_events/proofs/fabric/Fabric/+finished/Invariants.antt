@@ -1,4 +1,4 @@
-use Rattle.std.proofs.Common.{◌≡◌, ℕ, ◌+◌, ◌*◌, Bool, true, take}
+use Rattle.std.proofs.Common.{◌≡◌, ◌+◌, ◌*◌, true, take}
 use Rattle.std.specs.List.{list_all}
 use Rattle.net_present.specs.Present.{front_now}
 use Rattle.fabric_events.specs.Fabrics.{input_drained, present_of}

@@ -1,5 +1,4 @@
-use Rattle.std.proofs.Common.{◌≡◌, ◌∙◌, sym, Option, None, Some}
-use Rattle.chdr_packets.specs.declared.packet.Packet.{Packet}
+use Rattle.std.proofs.Common.{◌∙◌, sym}
 use Rattle.net_machine.specs.State.{node_in}
 use Rattle.fabric_lists.specs.SitesView.{sites_of}
 use Rattle.fabric_events.proofs.fabric.Fabric.ask.Goals as goal

@@ -1,7 +1,6 @@
 use Rattle.std.proofs.Common.{◌≡◌, ◌≤◌, ◌∙◌, sym, ap, subst, length}
 use Rattle.std.specs.Prelude.{map}
 use Rattle.net_machine.specs.declared.plan.RunPlan.{RunPlan}
-use Rattle.net_present.specs.Present.{BlockNow}
 use Rattle.fabric_lists.specs.Opened.{txs_in}
 use Rattle.fabric_events.specs.Fabrics.{item_now, item_planned, kind_now, kind_planned}
 use Rattle.fabric_events.proofs.BegunLemmas.{unfed-items, unfed-kinds}

@@ -1,8 +1,8 @@
-use Rattle.std.proofs.Common.{◌≡◌, ℕ, ◌+◌, ◌≤◌, ◌<◌, Bool, true, false, List, length, refl, sym, ◌∙◌, ap, arith}
+use Rattle.std.proofs.Common.{◌≤◌, List, length, refl, sym, ◌∙◌, ap, arith}
 use Rattle.std.specs.List.{filter}
 use Rattle.net_machine.specs.declared.event.Event.{Event}
 use Rattle.fabric_events.specs.declared.candidates.Sizes.{Sizes}
-use Rattle.fabric_events.specs.Choosing.{doable_now, sizes_of}
+use Rattle.fabric_events.specs.Choosing.{doable_now}
 use Rattle.fabric_events.specs.Fabrics.{present_of}
 use Rattle.fabric_events.specs.Sizes.{candidates_in}
 use Rattle.fabric_events.proofs.fabric.Fabric.count_doable.Goals as goal

@@ -1,10 +1,7 @@
-use Rattle.std.proofs.Common.{◌≡◌, ℕ, ◌<◌, List, length, refl, ◌∙◌, sym, ap, subst, Option}
+use Rattle.std.proofs.Common.{ℕ, ◌<◌, List, length, refl, ◌∙◌, sym, ap, subst, Option}
 use Rattle.std.specs.Prelude.{IfSome}
 use Rattle.chdr_packets.specs.declared.packet.Packet.{Packet}
-use Rattle.chdr_words.specs.declared.command.Command.{Command}
-use Rattle.chdr_words.specs.declared.status.Status.{Status}
 use Rattle.net_machine.specs.Faults.{is_named}
-use Rattle.net_machine.specs.Passing.{message}
 use Rattle.net_machine.specs.Plans.{first_link, plan_at}
 use Rattle.net_machine.specs.Queues.{queue_of}
 use Rattle.net_machine.specs.Streams.{numbered}
@@ -12,9 +9,7 @@ use Rattle.net_machine.specs.declared.plan.StreamPlan.{StreamPlan}
 use Rattle.net_present.specs.Kept.{now_at}
 use Rattle.net_present.specs.Onward.{enters_now, entries_at}
 use Rattle.net_present.specs.Present.{front_now_of}
-use Rattle.net_present.specs.StreamSteps.{receiving_now, sending_now, sends_first_now, sends_order_now, sends_status_now}
-use Rattle.stream_endpoint.specs.InEnd.{status_of}
-use Rattle.stream_endpoint.specs.OutEnd.{command_of}
+use Rattle.net_present.specs.StreamSteps.{sends_first_now}
 use Rattle.stream_endpoint.specs.Sender.{next_number}
 use Rattle.stream_endpoint.specs.declared.fault.Fault.TheVariants as fault
 use Rattle.fabric_parts.specs.Streams.{StreamSeen}

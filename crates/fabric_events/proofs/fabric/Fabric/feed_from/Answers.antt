@@ -1,10 +1,10 @@
-use Rattle.std.proofs.Common.{◌≡◌, ℕ, ◌<◌, List, length, refl, sym, ◌∙◌, ap, subst, Option, Some, false}
+use Rattle.std.proofs.Common.{ℕ, ◌<◌, List, length, refl, sym, ◌∙◌, ap, subst, Option}
 use Rattle.std.specs.Prelude.{All, IfSome}
 use Rattle.block_library.specs.Memory.{gives}
 use Rattle.chdr_packets.specs.declared.packet.Packet.{Packet}
 use Rattle.net_machine.specs.declared.plan.RunPlan.{RunPlan}
 use Rattle.net_present.specs.Kept.{block_now_at, now_at}
-use Rattle.net_present.specs.Present.{Present, StreamNow}
+use Rattle.net_present.specs.Present.{Present}
 use Rattle.net_present.specs.StreamSteps.{fed_now}
 use Rattle.fabric_parts.specs.Ready.{IsShort}
 use Rattle.fabric_lists.specs.BlocksView.{blocks_of}

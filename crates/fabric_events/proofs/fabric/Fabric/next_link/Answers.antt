@@ -1,4 +1,4 @@
-use Rattle.std.proofs.Common.{◌≡◌, ℕ, ◌<◌, List, length, refl, sym, ◌∙◌, ap, subst, Option}
+use Rattle.std.proofs.Common.{◌≡◌, ℕ, ◌<◌, List, length, sym, ◌∙◌, ap, subst, Option}
 use Rattle.std.specs.Option.{option_and_then}
 use Rattle.net_machine.specs.State.{node_in}
 use Rattle.net_topology.specs.Leads.{turned_to}

@@ -1,26 +1,21 @@
-use Rattle.std.proofs.Common.{◌≡◌, ℕ, ◌<◌, List, length, ◌∙◌, sym, ap, subst, Option}
+use Rattle.std.proofs.Common.{ℕ, ◌<◌, List, length, ◌∙◌, sym, ap, subst, Option}
 use Rattle.std.specs.Prelude.{IfSome}
 use Rattle.chdr_packets.specs.declared.packet.Body.TheVariants as body
 use Rattle.chdr_words.specs.declared.command.Command.{Command}
-use Rattle.chdr_words.specs.declared.status.Status.{Status}
 use Rattle.net_machine.specs.Faults.{is_named}
 use Rattle.net_machine.specs.Passing.{message}
 use Rattle.net_machine.specs.Plans.{first_link, plan_at}
 use Rattle.net_machine.specs.Queues.{queue_of}
-use Rattle.net_machine.specs.Streams.{numbered}
 use Rattle.net_machine.specs.declared.plan.StreamPlan.{StreamPlan}
 use Rattle.net_present.specs.Kept.{now_at}
-use Rattle.net_present.specs.Onward.{enters_now, entries_at}
-use Rattle.net_present.specs.Present.{front_now_of}
-use Rattle.net_present.specs.StreamSteps.{receiving_now, sending_now, sends_first_now, sends_order_now, sends_status_now}
-use Rattle.stream_endpoint.specs.InEnd.{status_of}
+use Rattle.net_present.specs.Onward.{entries_at}
+use Rattle.net_present.specs.StreamSteps.{sending_now, sends_order_now}
 use Rattle.stream_endpoint.specs.OutEnd.{command_of}
-use Rattle.stream_endpoint.specs.Sender.{next_number}
 use Rattle.stream_endpoint.specs.declared.fault.Fault.TheVariants as fault
 use Rattle.fabric_parts.specs.Streams.{StreamSeen}
 use Rattle.fabric_events.specs.Fabrics.{present_of}
 use Rattle.fabric_lists.specs.StreamsView.{streams_of}
-use Rattle.fabric_events.proofs.EventLemmas.{enters_by, plan_there, ready_of, sound_streams, stream_changed, tx_there}
+use Rattle.fabric_events.proofs.EventLemmas.{enters_by, plan_there, stream_changed}
 use Rattle.fabric_events.proofs.fabric.Fabric.order.Goals as goal
 
 pub enter_over-requires-clause-room : goal.enter_over-requires-clause-room

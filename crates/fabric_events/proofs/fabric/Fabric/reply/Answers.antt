@@ -1,4 +1,4 @@
-use Rattle.std.proofs.Common.{◌≡◌, ℕ, ◌<◌, length, ◌∙◌, sym, subst, Option}
+use Rattle.std.proofs.Common.{ℕ, ◌<◌, length, ◌∙◌, sym, subst, Option}
 use Rattle.std.specs.Prelude.{IfSome}
 use Rattle.net_machine.specs.Queues.{queue_of}
 use Rattle.net_machine.specs.State.{node_in}

@@ -1,4 +1,4 @@
-use Rattle.std.proofs.Common.{◌≡◌, ℕ, List, ◌∙◌, sym, ap, Option, None, Some}
+use Rattle.std.proofs.Common.{ℕ, List, ◌∙◌, sym, ap, Option}
 use Rattle.std.specs.Option.{option_and_then}
 use Rattle.net_machine.specs.State.{node_in}
 use Rattle.net_topology.specs.Links.{link_at}

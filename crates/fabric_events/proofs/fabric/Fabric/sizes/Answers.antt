@@ -1,6 +1,5 @@
-use Rattle.std.proofs.Common.{◌≡◌, ℕ, ◌*◌, ◌≤◌, List, length, sym, ◌∙◌, ap, arith}
+use Rattle.std.proofs.Common.{◌≡◌, length, ◌∙◌, ap, arith}
 use Rattle.net_topology.specs.declared.plan.Plan.{Plan}
-use Rattle.net_machine.specs.Front.{Queued}
 use Rattle.fabric_events.proofs.fabric.Fabric.sizes.Goals as goal
 use Rattle.fabric_events.proofs.SizesLemmas.{few_links, sizes_are}
 

@@ -1,4 +1,4 @@
-use Rattle.std.proofs.Common.{◌≡◌, ℕ, List, ◌∙◌, sym, ap}
+use Rattle.std.proofs.Common.{ℕ, List, ◌∙◌, sym, ap}
 use Rattle.net_machine.specs.State.{node_in}
 use Rattle.fabric_nodes.specs.Shapes.{leaves_of}
 use Rattle.fabric_nodes.specs.declared.node.Site.{Site}

@@ -1,7 +1,6 @@
-use Rattle.std.proofs.Common.{◌≡◌, ◌<◌, List, [], ◌∷◌, ◌++◌, length, ◌∙◌, sym, ap, subst, get_or, set, Option, None, Some}
+use Rattle.std.proofs.Common.{◌≡◌, ◌<◌, List, [], ◌∷◌, length, ◌∙◌, sym, ap, subst, get_or, set, Option, None, Some}
 use Rattle.std.specs.Prelude.{map, MatchOption}
 use Rattle.net_machine.specs.Front.{Queued}
-use Rattle.fabric_parts.specs.Queues.{QueueSeen}
 use Rattle.fabric_lists.specs.QueuesView.{QueuesSeen, entries_of}
 use Rattle.fabric_lists.proofs.queues.Queues.pop.Goals as goal
 use Rattle.fabric_lists.proofs.PartLemmas.{read-at, read-set}
