@@ -9,8 +9,8 @@ ghost use Rattle.fabric_events.specs.Ready.{HasAnswerRoom, HasCounts, HasSpare, 
 ghost use Rattle.fabric_events.specs.Walking.{moves_by};
 
 use crate::fabric::Fabric;
-use fabric_nodes::walking;
 use block_registers::RegisterSlots;
+use fabric_nodes::walking;
 use fabric_parts::Entry;
 use net_nodes::Room;
 

@@ -7,9 +7,9 @@ ghost use Rattle.fabric_events.specs.Fabrics.{IsSound, present_of};
 ghost use Rattle.fabric_events.specs.Ready.{FeedReady, HasAnswerRoom, HopReady, IsReady};
 
 use crate::fabric::Fabric;
-use fabric_nodes::walking;
 use chdr_packets::Packet;
 use fabric_lists::{blocks, sites, stream_reads};
+use fabric_nodes::walking;
 use net_machine::Event;
 use net_nodes::{Room, asked_answers, reserve_answers};
 use rf_base::Memory;
