@@ -1,0 +1,6 @@
+pub mod Stages
+pub mod Lone
+pub mod Runs
+pub mod Laws
+pub mod Control
+pub mod Talks
