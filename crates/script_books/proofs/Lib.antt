@@ -1,3 +1,2 @@
 pub mod CountLemmas
-pub mod PrintLemmas
-pub mod TextLemmas
+pub mod PlaceLemmas

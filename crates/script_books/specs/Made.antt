@@ -1,14 +1,13 @@
 -- Which blocks and streams a run has: each was made by the last command before it whose book tells its number.
-use Rattle.std.specs.Prelude.{ℕ, zero, suc, ◌==◌, Bool, false, if◌then◌else◌, List, [], Option, None, Some, slice_get}
+use Rattle.std.specs.Prelude.{ℕ, zero, suc, ◌==◌, Bool, false, if◌then◌else◌, List, Option, None, Some, slice_get}
 use Rattle.chdr_words.specs.declared.epid.Epid.{Epid}
 use Rattle.block_library.specs.declared.kind.BlockKind.{BlockKind}
 use Rattle.graph_core.specs.declared.place.PortAt.{PortAt}
 use Rattle.graph_core.specs.declared.place.Side.{Side}
-use Rattle.graph_core.specs.declared.place.Side.TheVariants.{Into, Out}
 use Rattle.rf_script_types.specs.declared.command.ScriptCommand.{ScriptCommand}
-use Rattle.rf_script_types.specs.declared.command.ScriptCommand.TheVariants as command
 use Rattle.script_books.specs.declared.book.Book.{Book}
 use Rattle.script_books.specs.declared.book.Book.TheVariants as book
+use Rattle.script_books.specs.Commands.{epids_of, kind_of, port_of}
 
 -- the book tells that this block was made, that this stream was
 abbrev pub makes_block : ℕ → Book → Bool
@@ -27,25 +26,6 @@ is_some_of p (Some x) = p x
 unfoldable pub last_place : {X : Type 0} → (X → Bool) → List X → ℕ → Option ℕ
 last_place p xs zero = None
 last_place p xs (suc k) = if is_some_of p (slice_get xs k) then Some k else last_place p xs k
-
--- what is for inputs, or what is for outputs
-abbrev pub pick : {X : Type 0} → Side → X → X → X
-pick Into input output = input
-pick Out input output = output
-
--- of a block command its kind, and its EPIDs on a side
-abbrev pub kind_of : ScriptCommand → Option BlockKind
-kind_of (command.Block kind ins outs packets time) = Some kind
-kind_of _ = None
-
-abbrev pub epids_of : Side → ScriptCommand → List Epid
-epids_of side (command.Block kind ins outs packets time) = pick side ins outs
-epids_of side _ = []
-
--- of a connect command the input, or the output
-abbrev pub port_of : Side → ScriptCommand → Option PortAt
-port_of side (command.Connect from to flow start policy) = Some (pick side to from)
-port_of side _ = None
 
 abbrev pub then_some : {X Y : Type 0} → Option X → (X → Option Y) → Option Y
 then_some None f = None

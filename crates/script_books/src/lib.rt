@@ -1,29 +1,21 @@
-//! What a script's performance leaves: a book of each command, and the report that tells them.
+//! What a script's performance leaves: a book of each command, and what the books tell.
 //!
 //! Rule: docs/report.md.
 #![tactic(auto)]
 
 mod book;
+mod commands;
 mod counts;
 mod found;
-mod gather;
-mod lines;
-mod list;
-mod lists;
 mod made;
-mod names;
-mod page;
 mod refusal;
-mod refusal_text;
-mod writing;
 
 pub use book::{
     ActAnswer, ActAnswers, Book, BookList, Books, DuplexBook, DuplexItem, DuplexItems, Lines,
     RunBook, TakenLists, TwinBook,
 };
+pub use commands::{acts_of, is_peaked, is_traced, kind_of};
 pub use counts::{refused, undrained};
 pub use found::{Found, FoundNode, FoundNodes, LostPort, LostPorts};
-pub use gather::report;
-pub use page::Page;
+pub use made::{end_at, kind_at};
 pub use refusal::Refusal;
-pub use writing::{ReportFault, write_report};

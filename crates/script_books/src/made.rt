@@ -1,9 +1,10 @@
 //! Which blocks and streams a run has: each was made by the last command before it whose book tells
 //! its number.
 ghost use Rattle.std.specs.Prelude.{◌≡◌, slice_get, option_copied};
-ghost use Rattle.script_books.specs.Made.{end_at, epid_at, epids_of, is_some_of, kind_at, kind_of, last_place, makes_block, makes_stream, port_of};
+ghost use Rattle.script_books.specs.Made.{end_at, epid_at, is_some_of, kind_at, last_place, makes_block, makes_stream};
 
 use crate::Book;
+use crate::commands::{epids_of, kind_of, port_of};
 use block_library::BlockKind;
 use chdr_words::Epid;
 use graph_core::{PortAt, Side};
@@ -56,7 +57,7 @@ fn makes_stream(books: &[Book], place: usize, stream: usize) -> bool
 }
 
 /// The place of the command that made the block.
-#[tactic(auto, using(crate::proofs::TextLemmas::place_lemmas))]
+#[tactic(auto, using(crate::proofs::PlaceLemmas::place_lemmas))]
 fn last_block(books: &[Book], end: usize, block: usize) -> Option<usize>
     ensures { result ≡ last_place (makes_block block) books.now end }
 {
@@ -70,7 +71,7 @@ fn last_block(books: &[Book], end: usize, block: usize) -> Option<usize>
 }
 
 /// The place of the command that made the stream.
-#[tactic(auto, using(crate::proofs::TextLemmas::place_lemmas))]
+#[tactic(auto, using(crate::proofs::PlaceLemmas::place_lemmas))]
 fn last_stream(books: &[Book], end: usize, stream: usize) -> Option<usize>
     ensures { result ≡ last_place (makes_stream stream) books.now end }
 {
@@ -81,72 +82,6 @@ fn last_stream(books: &[Book], end: usize, stream: usize) -> Option<usize>
         }
     }
     found
-}
-
-/// Of a block command its kind.
-pub fn kind_of(command: &ScriptCommand) -> Option<BlockKind>
-    ensures { result ≡ kind_of command.now }
-{
-    match command {
-        ScriptCommand::Block { kind, .. } => Some(*kind),
-        ScriptCommand::Net { .. }
-        | ScriptCommand::Discover { .. }
-        | ScriptCommand::Route { .. }
-        | ScriptCommand::Control { .. }
-        | ScriptCommand::Unload { .. }
-        | ScriptCommand::Connect { .. }
-        | ScriptCommand::Set { .. }
-        | ScriptCommand::Commit
-        | ScriptCommand::Run { .. }
-        | ScriptCommand::Twin { .. }
-        | ScriptCommand::Duplex { .. } => None,
-    }
-}
-
-/// Of a block command its EPIDs on a side.
-fn epids_of(command: &ScriptCommand, side: Side) -> &[Epid]
-    ensures { result.now ≡ epids_of side command.now }
-{
-    match command {
-        ScriptCommand::Block { ins, outs, .. } => match side {
-            Side::Into => ins.as_slice(),
-            Side::Out => outs.as_slice(),
-        },
-        ScriptCommand::Net { .. }
-        | ScriptCommand::Discover { .. }
-        | ScriptCommand::Route { .. }
-        | ScriptCommand::Control { .. }
-        | ScriptCommand::Unload { .. }
-        | ScriptCommand::Connect { .. }
-        | ScriptCommand::Set { .. }
-        | ScriptCommand::Commit
-        | ScriptCommand::Run { .. }
-        | ScriptCommand::Twin { .. }
-        | ScriptCommand::Duplex { .. } => &[],
-    }
-}
-
-/// Of a connect command its port on a side.
-fn port_of(command: &ScriptCommand, side: Side) -> Option<PortAt>
-    ensures { result ≡ port_of side command.now }
-{
-    match command {
-        ScriptCommand::Connect { from, to, .. } => match side {
-            Side::Into => Some(*to),
-            Side::Out => Some(*from),
-        },
-        ScriptCommand::Net { .. }
-        | ScriptCommand::Discover { .. }
-        | ScriptCommand::Route { .. }
-        | ScriptCommand::Control { .. }
-        | ScriptCommand::Unload { .. }
-        | ScriptCommand::Block { .. }
-        | ScriptCommand::Set { .. }
-        | ScriptCommand::Commit
-        | ScriptCommand::Run { .. }
-        | ScriptCommand::Twin { .. }
-        | ScriptCommand::Duplex { .. } => None,
-    }
 }
 
 /// The kind of a block, as the first books tell.

@@ -1,0 +1,5 @@
+pub mod CommandLines
+pub mod Lines
+pub mod Names
+pub mod Page
+pub mod RefusalTexts
