@@ -1,0 +1,15 @@
+pub mod Supplying
+pub mod Draining
+pub mod Waiting
+pub mod Growing
+pub mod Choosing
+pub mod Nexts
+pub mod Stepping
+pub mod Beginning
+pub mod Ending
+pub mod Rows
+pub mod Taking
+pub mod Books
+pub mod Plain
+pub mod Laws
+pub mod Runs

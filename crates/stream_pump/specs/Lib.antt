@@ -1,0 +1,5 @@
+pub mod Supply
+pub mod Drains
+pub mod Telling
+pub mod Running
+pub mod PlainBooks

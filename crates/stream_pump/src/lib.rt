@@ -1,0 +1,18 @@
+//! A run on one thread: its events are chosen one after another, and its book tells what they left.
+//!
+//! Rule: docs/machine.md, "One thread", and "Ends and tallies".
+#![tactic(auto)]
+
+mod drains;
+mod events;
+mod law;
+mod lines;
+mod run;
+mod supply;
+mod tells;
+
+pub use block_library::Line;
+pub use law::{books_without_losses_are_plain, chosen_books_are_books};
+pub use net_machine::{StreamEnd, Tally};
+pub use run::run_one;
+pub use run_books::{Lines, RunBook, TakenLists};
