@@ -1,26 +1,9 @@
 //! What each command did.
 use crate::{Found, Refusal};
-use block_library::Line;
-use chdr_packets::PacketList;
 use chdr_words::Control;
-use net_machine::{Ends, Event, Journal, Tallies};
+use net_machine::Event;
 use rf_base::Items;
-
-/// For each Rx block, in order, the packets that it took.
-pub type TakenLists = Items<PacketList>;
-
-/// For each Rx and sink block, in order, its line.
-pub type Lines = Items<Line>;
-
-/// A run, from its first event to the moment when nothing is left to happen.
-#[derive(Debug, Drop, PartialEq, Eq)]
-pub struct RunBook {
-    pub journal: Journal,
-    pub ends: Ends,
-    pub tallies: Tallies,
-    pub taken: TakenLists,
-    pub lines: Lines,
-}
+use run_books::RunBook;
 
 /// A run over two devices.
 #[derive(Debug, Drop, PartialEq, Eq)]

@@ -11,11 +11,11 @@ mod made;
 mod refusal;
 
 pub use book::{
-    ActAnswer, ActAnswers, Book, BookList, Books, DuplexBook, DuplexItem, DuplexItems, Lines,
-    RunBook, TakenLists, TwinBook,
+    ActAnswer, ActAnswers, Book, BookList, Books, DuplexBook, DuplexItem, DuplexItems, TwinBook,
 };
 pub use commands::{acts_of, is_peaked, is_traced, kind_of};
 pub use counts::{refused, undrained};
 pub use found::{Found, FoundNode, FoundNodes, LostPort, LostPorts};
 pub use made::{end_at, kind_at};
 pub use refusal::Refusal;
+pub use run_books::{Lines, RunBook, TakenLists};

@@ -11,7 +11,7 @@ use Rattle.script_books.specs.declared.book.Book.{Book}
 use Rattle.script_books.specs.declared.book.Book.TheVariants as book
 use Rattle.script_books.specs.declared.book.Books.{Books}
 use Rattle.script_books.specs.declared.book.DuplexBook.{DuplexBook}
-use Rattle.script_books.specs.declared.book.RunBook.{RunBook}
+use Rattle.run_books.specs.declared.book.RunBook.{RunBook}
 use Rattle.script_books.specs.declared.book.ActAnswer.{ActAnswer}
 use Rattle.script_books.specs.Commands.{acts_of, is_peaked, is_traced}
 use Rattle.script_books.specs.Made.{kind_at, end_at}
