@@ -1,4 +1,5 @@
 mod PartLemmas
+mod HeldLemmas
 mod StreamLemmas
 mod SiteLemmas
 mod BlockLemmas

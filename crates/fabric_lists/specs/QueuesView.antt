@@ -1,6 +1,10 @@
 -- The queues of a network as contracts see them, read from the fields.
-use Rattle.std.specs.Prelude.{◌≡◌, ℕ, List, All, map}
+use Rattle.std.specs.Prelude.{◌≡◌, ℕ, Bool, true, false, List, [], ◌∷◌, All, map, not}
+use Rattle.std.specs.List.{list_all}
+use Rattle.net_machine.specs.Conditions.{is_of}
 use Rattle.net_machine.specs.Front.{Queued}
+use Rattle.net_machine.specs.declared.plan.StreamPlan.{StreamPlan}
+use Rattle.net_present.specs.Onward.{entries_at}
 use Rattle.fabric_parts.specs.Queues.{QueueSeen}
 use Rattle.fabric_lists.specs.declared.queues.Queues.TheInside.{Inside}
 
@@ -15,6 +19,20 @@ entries_of q = q.entries
 abbrev pub view_of : Inside → QueuesSeen
 view_of qs = record { entries = map entries_of qs.queues.items; room = qs.room }
 
--- each queue has this room
-abbrev pub IsSound : Inside → Type 0
-IsSound qs = All (λ (q : QueueSeen). q.room ≡ qs.room) qs.queues.items
+-- there is an entry
+abbrev pub is_held : List Queued → Bool
+is_held [] = false
+is_held (e ∷ rest) = true
+
+-- queue q holds an entry
+abbrev pub holds : List (List Queued) → ℕ → Bool
+holds queues q = is_held (entries_at queues q)
+
+-- no entry of a stream is among these
+abbrev pub has_none : StreamPlan → List Queued → Bool
+has_none plan es = list_all (λ (e : Queued). not (is_of plan e.packet.dst e.packet.body)) es
+
+-- each queue has this room, and exactly the flags of the queues that hold an entry are set
+pub record IsSound (qs : Inside) : Type 0 where
+  pub rooms : All (λ (q : QueueSeen). q.room ≡ qs.room) qs.queues.items
+  pub held : qs.held ≡ map is_held (map entries_of qs.queues.items)

@@ -1,10 +1,11 @@
-ghost use Rattle.std.specs.Prelude.{◌≡◌, not, ◌<◌, ◌++◌, [], ◌∷◌, List, length, nat_lt, option_copied, replicate, slice_get, slice_set, IfOk};
-ghost use Rattle.std.specs.List.{list_all};
-ghost use Rattle.net_machine.specs.Conditions.{is_of, none_under_way};
+ghost use Rattle.std.specs.Prelude.{◌≡◌, ◌<◌, ◌++◌, [], ◌∷◌, List, length, nat_lt, option_copied, replicate, slice_get, slice_set, IfOk, MatchOption};
+ghost use Rattle.fabric_flags.specs.Set.{IsNext, NoneFrom};
+ghost use Rattle.net_machine.specs.Conditions.{none_under_way};
 ghost use Rattle.net_machine.specs.Front.{Queued};
 ghost use Rattle.net_present.specs.Onward.{entries_at};
-ghost use Rattle.fabric_parts.specs.Queues.{QueueSeen};
+ghost use Rattle.fabric_lists.specs.QueuesView.{has_none, holds};
 
+use fabric_flags::Flags;
 use fabric_parts::{Entry, Queue};
 use net_machine::StreamPlan;
 use rf_base::Memory;
@@ -18,6 +19,8 @@ use std::marker::Model;
 pub struct Queues {
     queues: Vec<Queue>,
     room: u32,
+    /// Which queues hold an entry.
+    held: Flags,
 }
 
 impl Model for Queues {
@@ -40,7 +43,8 @@ impl Queues {
         for _ in 0..count {
             queues.push(Queue::new(alloc, room)?)?;
         }
-        Ok(Queues { queues, room })
+        let held = Flags::new(alloc, count)?;
+        Ok(Queues { queues, room, held })
     }
 
     /// How many queues there are.
@@ -69,12 +73,34 @@ impl Queues {
         }
     }
 
-    /// Whether no entry of a stream is in a queue.
-    #[tactic(auto, using(crate::proofs::PartLemmas::none_in_all))]
+    /// The first queue from queue q on that holds an entry.
+    pub fn next_held(&self, q: usize) -> Option<usize>
+        ensures { MatchOption result (NoneFrom (holds self.now.entries) q) (IsNext (holds self.now.entries) q) }
+    {
+        self.held.next_from(q)
+    }
+
+    /// Whether no entry of a stream is in a queue; it looks at the queues that hold an entry.
     pub fn has_none_of(&self, plan: &StreamPlan) -> bool
         ensures { result ≡ none_under_way self.now.entries plan.now }
     {
-        have_none_of(self.queues.as_slice(), plan)
+        let _ = self.count();
+        let mut from = 0;
+        while let Some(q) = self.next_held(from) {
+            if !self.has_none_at(q, plan) {
+                return false;
+            }
+            from = q + 1;
+        }
+        true
+    }
+
+    /// Whether none is in queue q.
+    fn has_none_at(&self, q: usize, plan: &StreamPlan) -> bool
+        requires { q < length self.now.entries }
+        ensures { result ≡ has_none plan.now (entries_at self.now.entries q) }
+    {
+        self.queues[q].has_none_of(plan)
     }
 
     /// An entry joins a queue.
@@ -86,6 +112,7 @@ impl Queues {
         ensures room { self.new.room ≡ self.old.room }
     {
         self.queues[q].push(entry);
+        self.held.set(q, true);
     }
 
     /// The front entry leaves a queue.
@@ -95,13 +122,10 @@ impl Queues {
             (result ≡ Some e) × (self.new.entries ≡ slice_set self.old.entries q rest) }
         ensures room { self.new.room ≡ self.old.room }
     {
-        self.queues[q].pop()
+        let queue = &mut self.queues[q];
+        let entry = queue.pop();
+        let is_held = queue.len() > 0;
+        self.held.set(q, is_held);
+        entry
     }
-}
-
-/// Whether no entry of a stream is in any of these queues.
-fn have_none_of(queues: &[Queue], plan: &StreamPlan) -> bool
-    ensures { result ≡ list_all (λ (q : QueueSeen). list_all (λ (e : Queued). not (is_of plan.now e.packet.dst e.packet.body)) q.entries) queues.now }
-{
-    queues.iter().all(|queue| queue.has_none_of(plan))
 }

@@ -1,8 +1,9 @@
-use Rattle.std.proofs.Common.{◌≡◌, ◌<◌, List, [], ◌∷◌, ◌++◌, length, ◌∙◌, sym, ap, subst, get_or, set}
+use Rattle.std.proofs.Common.{◌≡◌, ◌<◌, Bool, true, List, [], ◌∷◌, ◌++◌, length, ◌∙◌, sym, ap, subst, get_or, set, arith}
 use Rattle.std.specs.Prelude.{map}
 use Rattle.net_machine.specs.Front.{Queued}
-use Rattle.fabric_lists.specs.QueuesView.{QueuesSeen, entries_of}
+use Rattle.fabric_lists.specs.QueuesView.{QueuesSeen, entries_of, is_held}
 use Rattle.fabric_lists.proofs.queues.Queues.push.Goals as goal
+use Rattle.fabric_lists.proofs.HeldLemmas.{flags_count, held_set, joined_held, rooms_set}
 use Rattle.fabric_lists.proofs.PartLemmas.{read-at, read-set}
 
 pub returns-clause-entries : goal.returns-clause-entries
@@ -15,3 +16,24 @@ returns-clause-entries c =
     (c.push.ensures.entries ∙ ap (λ (es : List Queued). es ++ c.args.entry ∷ [])
     (read-at entries_of parts c.args.q c.index_mut.result.now [] there c.index_mut.ensures.value))
     ∙ ap (λ (es : List (List Queued)). set es c.args.q (get_or es c.args.q [] ++ c.args.entry ∷ [])) seen
+
+pub set-requires : goal.set-requires
+set-requires c =
+    let parts = c.self.inside.queues.items in
+    let there : c.args.q < length (map entries_of parts) =
+    subst (λ (v : QueuesSeen). c.args.q < length v.entries) (sym c.self.view_is) c.requires.there in
+    let many = flags_count parts c.self.inside.held c.self.invariant.held in
+    omega arith
+
+pub invariant_of-self : goal.invariant_of-self
+invariant_of-self c =
+    let parts = c.self.inside.queues.items in
+    let there : c.args.q < length (map entries_of parts) =
+    subst (λ (v : QueuesSeen). c.args.q < length v.entries) (sym c.self.view_is) c.requires.there in
+    let joined : true ≡ is_held c.push.new.self.entries =
+    joined_held c.index_mut.result.now.entries c.args.entry ∙ sym (ap is_held c.push.ensures.entries) in
+    record {
+      rooms = rooms_set parts c.self.inside.room c.args.q c.index_mut.result.now c.push.new.self c.self.invariant.rooms there
+          c.index_mut.ensures.value c.push.ensures.room;
+      held = c.set.ensures ∙ held_set parts c.self.inside.held c.args.q c.push.new.self true c.self.invariant.held joined;
+    }
