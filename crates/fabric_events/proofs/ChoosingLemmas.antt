@@ -1,9 +1,11 @@
 -- Which of a list of events pass a test, counted place by place.
-use Rattle.std.proofs.Common.{◌≡◌, ℕ, zero, suc, ◌+◌, ◌≤◌, Bool, true, false, List, [], ◌∷◌, length, refl, sym, ◌∙◌, ap, take, None, Some, arith}
-use Rattle.std.specs.Prelude.{if◌then◌else◌, slice_get}
+use Rattle.std.proofs.Common.{◌≡◌, ℕ, zero, suc, ◌+◌, ◌-◌, ◌<◌, ◌≤◌, Bool, true, false, List, [], ◌∷◌, length, refl, sym, ◌∙◌, ap, take, None, Some, arith}
+use Rattle.std.specs.Prelude.{◌==◌, if◌then◌else◌, slice_get}
 use Rattle.std.specs.List.{filter}
 use Rattle.std.proofs.lemmas.List.{length-map}
 use Rattle.std.proofs.lemmas.Option.{slice_get_past}
+use Rattle.net_machine.specs.Choice.{seed_after}
+use Rattle.net_machine.specs.declared.event.Event.{Event}
 use Rattle.net_present.specs.Present.{Present, front_now_of}
 use Rattle.fabric_events.specs.Choosing.{doable_list, doable_now, sizes_of}
 use Rattle.fabric_events.specs.Sizes.{candidates_in}
@@ -98,9 +100,41 @@ none_left test xs k n place h so_far few =
     let past : length (filter test xs) ≤ place = omega arith in
     sym (slice_get_past (filter test xs) place past)
 
+-- a place whose item fails
+skip_one : {X : Type 0} (test : X → Bool) (xs : List X) (k : ℕ) → ((x : X) → slice_get xs k ≡ Some x → test x ≡ false)
+    → passing test xs (suc k) ≡ passing test xs k
+skip_one test [] zero h = refl
+skip_one test [] (suc k) h = refl
+skip_one test (y ∷ ys) zero h = ap (λ b. length (if b then y ∷ filter test (take 0 ys) else filter test (take 0 ys))) (h y refl)
+skip_one test (y ∷ ys) (suc k) h =
+    let rest : passing test ys (suc k) ≡ passing test ys k = skip_one test ys k h in
+    let more : passing test (y ∷ ys) (suc (suc k)) ≡ told (test y) + passing test ys (suc k) = one (test y) y (filter test (take (suc k) ys)) in
+    let less : passing test (y ∷ ys) (suc k) ≡ told (test y) + passing test ys k = one (test y) y (filter test (take k ys)) in
+    omega arith
+
+skip_some : {X : Type 0} (test : X → Bool) (xs : List X) (k d : ℕ)
+    → ((i : ℕ) (x : X) → k ≤ i → i < k + d → slice_get xs i ≡ Some x → test x ≡ false) → passing test xs (k + d) ≡ passing test xs k
+skip_some test xs k zero h = let e : k + 0 ≡ k = omega arith in ap (λ n. passing test xs n) e
+skip_some test xs k (suc d) h =
+    let e : k + suc d ≡ suc (k + d) = omega arith in
+    ap (λ n. passing test xs n) e ∙ skip_one test xs (k + d) (λ x is. h (k + d) x (omega arith) (omega arith) is)
+    ∙ skip_some test xs k d (λ i x from to is. h i x from (omega arith) is)
+
+-- places whose items fail
+pub skips : {X : Type 0} (test : X → Bool) (xs : List X) (k n : ℕ) → k ≤ n
+    → ((i : ℕ) (x : X) → k ≤ i → i < n → slice_get xs i ≡ Some x → test x ≡ false) → passing test xs n ≡ passing test xs k
+skips test xs k n from h =
+    let e : k + (n - k) ≡ n = omega arith in
+    ap (λ m. passing test xs m) (sym e) ∙ skip_some test xs k (n - k) (λ i x lo hi is. h i x lo (omega arith) is)
+
 -- what a choice looks at is what the sizes name
 pub list_is : (p : Present) → doable_list p ≡ filter (doable_now p) (candidates_in (sizes_of p))
 unfolding doable_list
 list_is p =
     ap (λ n. filter (doable_now p) (candidates_in (record { streams = n; blocks = length p.plan.blocks; nodes = length p.nodes; queues = length p.queues })))
     (length-map p.streams front_now_of)
+
+-- the seed 0 stays
+pub zero_stays : (seed : ℕ) (events : List Event) → seed ≡ 0 → seed ≡ seed_after seed events
+zero_stays seed [] is = refl
+zero_stays seed (e ∷ es) is = is ∙ sym (ap (λ (n : ℕ). seed_after n (e ∷ es)) is)

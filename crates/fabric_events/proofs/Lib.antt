@@ -6,6 +6,7 @@ mod OnwardLemmas
 mod SizesLemmas
 mod ChoosingLemmas
 mod EventLemmas
+mod StillLemmas
 mod HopLemmas
 mod BegunLemmas
 mod BegunLaws

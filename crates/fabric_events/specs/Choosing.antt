@@ -1,5 +1,5 @@
 -- Which events a net can let happen, and which it chooses.
-use Rattle.std.specs.Prelude.{ℕ, ◌+◌, ◌&&◌, Bool, true, List, Option, if◌then◌else◌, length, nat_le, nat_lt}
+use Rattle.std.specs.Prelude.{◌≡◌, ℕ, ◌+◌, ◌<◌, ◌≤◌, ◌&&◌, Bool, true, false, List, Option, Some, if◌then◌else◌, length, nat_le, nat_lt, slice_get}
 use Rattle.net_machine.specs.declared.event.Event.{Event}
 use Rattle.net_machine.specs.declared.event.Event.TheVariants as event
 use Rattle.net_machine.specs.Choice.{chosen_of, listing, seed_after}
@@ -7,6 +7,7 @@ use Rattle.net_present.specs.Kept.{now_at}
 use Rattle.net_present.specs.Onward.{enabled_now}
 use Rattle.net_present.specs.Present.{Present, front_now}
 use Rattle.fabric_lists.specs.Opened.{is_tx_stream}
+use Rattle.fabric_events.specs.Sizes.{candidates_in}
 use Rattle.fabric_events.specs.declared.candidates.Sizes.{Sizes}
 
 -- the next packet of stream s was offered, if a Tx makes it
@@ -43,3 +44,7 @@ seed_now seed p = seed_after seed (doable_list p)
 -- how many streams, blocks, nodes and queues a present has
 abbrev pub sizes_of : Present → Sizes
 sizes_of p = record { streams = length p.streams; blocks = length p.plan.blocks; nodes = length p.nodes; queues = length p.queues }
+
+-- no event can happen at the places of the order from k to before n
+abbrev pub IsStill : Present → Sizes → ℕ → ℕ → Type 0
+IsStill p sizes k n = (i : ℕ) (e : Event) → k ≤ i → i < n → slice_get (candidates_in sizes) i ≡ Some e → doable_now p e ≡ false

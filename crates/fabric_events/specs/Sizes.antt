@@ -21,3 +21,10 @@ candidates_in sizes =
 -- how many these are
 abbrev pub candidate_count : Sizes → ℕ
 candidate_count sizes = 5 * sizes.streams + 2 * sizes.blocks + 2 * sizes.nodes + 2 * sizes.queues
+
+-- the places of the first Reply and of the first Lose
+abbrev pub first_reply : Sizes → ℕ
+first_reply sizes = 5 * sizes.streams + 2 * sizes.blocks
+
+abbrev pub first_loss : Sizes → ℕ
+first_loss sizes = 5 * sizes.streams + 2 * sizes.blocks + 2 * sizes.nodes

@@ -1,7 +1,7 @@
 ghost use Rattle.std.specs.Prelude.{◌≡◌, ◌<◌, ℕ, length, slice_get, Some};
 ghost use Rattle.net_machine.specs.declared.event.Event.TheVariants.{Command};
 ghost use Rattle.net_machine.specs.Choice.{commands_of};
-ghost use Rattle.fabric_events.specs.Sizes.{candidate_count, candidates_in};
+ghost use Rattle.fabric_events.specs.Sizes.{candidate_count, candidates_in, first_loss};
 
 use chdr_words::CmdOp;
 use net_machine::Event;
@@ -25,6 +25,13 @@ impl Sizes {
             + 2 * self.blocks as usize
             + 2 * self.nodes as usize
             + 2 * self.queues as usize
+    }
+
+    /// The place of the first Lose, behind the events of streams, blocks and nodes.
+    pub fn losses(self) -> usize
+        ensures { result ≡ first_loss self }
+    {
+        5 * self.streams as usize + 2 * self.blocks as usize + 2 * self.nodes as usize
     }
 
     /// The event at a place of the order in which a choice looks at events.

@@ -2,8 +2,9 @@
 ghost use Rattle.std.specs.Prelude.{◌≡◌, ◌<◌, ◌≤◌, ◌^◌, length, slice_get};
 ghost use Rattle.net_machine.specs.Conditions.{may};
 ghost use Rattle.net_present.specs.Present.{front_now};
-ghost use Rattle.fabric_events.specs.Choosing.{chosen_now, doable_list, doable_now, is_handed, is_offered, seed_now, sizes_of};
+ghost use Rattle.fabric_events.specs.Choosing.{IsStill, chosen_now, doable_list, doable_now, is_handed, is_offered, seed_now, sizes_of};
 ghost use Rattle.fabric_events.specs.Fabrics.{IsSound, present_of};
+ghost use Rattle.fabric_events.specs.Sizes.{candidate_count};
 
 use crate::Sizes;
 use crate::fabric::Fabric;
@@ -85,6 +86,29 @@ impl Fabric {
 }
 
 impl Fabric {
+    /// The first place from k on whose event isn't one of an empty queue; without one the number of places.
+    fn next_place(&self, sizes: Sizes, k: usize) -> usize
+        requires sound { IsSound self.now }
+        requires sizes { sizes ≡ sizes_of (present_of self.now) }
+        requires there { k ≤ candidate_count sizes }
+        ensures from { k ≤ result }
+        ensures within { result ≤ candidate_count sizes }
+        ensures still { IsStill (present_of self.now) sizes k result }
+    {
+        let losses = sizes.losses();
+        if k < losses {
+            return k;
+        }
+        let hops = losses + sizes.queues as usize;
+        if let Some(q) = self.queues.next_held(k - losses) {
+            return losses + q;
+        }
+        match self.queues.next_held(k.saturating_sub(hops)) {
+            Some(q) => hops + q,
+            None => sizes.count(),
+        }
+    }
+
     /// How many events can happen, takings left out.
     fn count_doable(&self, sizes: Sizes) -> usize
         requires sound { IsSound self.now }
@@ -92,10 +116,12 @@ impl Fabric {
         ensures { result ≡ length (doable_list (present_of self.now)) }
     {
         let mut count = 0;
-        for k in 0..sizes.count() {
+        let mut k = self.next_place(sizes, 0);
+        while k < sizes.count() {
             if self.doable(sizes.event(k)) {
                 count += 1;
             }
+            k = self.next_place(sizes, k + 1);
         }
         count
     }
@@ -107,7 +133,8 @@ impl Fabric {
         ensures { result ≡ slice_get (doable_list (present_of self.now)) place }
     {
         let mut passed = 0;
-        for k in 0..sizes.count() {
+        let mut k = self.next_place(sizes, 0);
+        while k < sizes.count() {
             let event = sizes.event(k);
             if self.doable(event) {
                 if passed == place {
@@ -115,23 +142,27 @@ impl Fabric {
                 }
                 passed += 1;
             }
+            k = self.next_place(sizes, k + 1);
         }
         None
     }
 
-    /// The event that a seed chooses among those that can happen; it looks at each.
+    /// The event that a seed chooses among those that can happen.
+    ///
+    /// It looks at those of streams, blocks and nodes, and of the queues that hold an entry.
+    #[tactic(auto, using(crate::proofs::ChoosingLemmas::zero_stays))]
     pub fn choose(&self, seed: &mut Seed) -> Option<Event>
         requires { IsSound self.now }
         ensures event { result ≡ chosen_now seed.old.0 (present_of self.now) }
         ensures seed { seed.new.0 ≡ seed_now seed.old.0 (present_of self.now) }
     {
         let sizes = self.sizes();
+        if seed.0 == 0 {
+            return self.nth_doable(sizes, 0);
+        }
         let count = self.count_doable(sizes);
         if count == 0 {
             return None;
-        }
-        if seed.0 == 0 {
-            return self.nth_doable(sizes, 0);
         }
         *seed = seed.next();
         self.nth_doable(sizes, seed.place(count))
