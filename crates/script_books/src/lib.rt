@@ -19,3 +19,6 @@ pub use found::{Found, FoundNode, FoundNodes, LostPort, LostPorts};
 pub use made::{end_at, kind_at};
 pub use refusal::Refusal;
 pub use run_books::{Lines, RunBook, TakenLists};
+
+#[cfg(test)]
+mod tests;
