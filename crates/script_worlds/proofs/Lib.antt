@@ -1,0 +1,5 @@
+mod Alike
+mod Committing
+mod Fits
+pub mod Laws
+mod Standing
