@@ -24,18 +24,14 @@ use Rattle.net_machine.specs.Queues.{back_vc, channel_of, forward_vc, link_of_qu
 use Rattle.net_machine.specs.State.{Node, State}
 use Rattle.net_machine.proofs.Laws.{queues}
 use Rattle.net_ways.specs.Hops.{GoesByTable}
+use Rattle.net_lone.specs.Carrying.{AnswersComeBack, ComesOn, MessagesAreCarried, RequestsEnter}
 use Rattle.net_lone.specs.Control.{ControlComesBack, IsLedControl, control_end, has_answered, has_asked, loses_answer, loses_request}
 use Rattle.net_lone.specs.Lone.{acknowledgement, answered_at, answering_at, arrived, entered, lone_after, moved_over, operated, passed_so}
-use Rattle.net_lone.specs.Runs.{Goes, has_loss, is_loss}
+use Rattle.net_lone.specs.Runs.{Comes, Ends, Goes, has_loss, is_loss}
 use Rattle.net_lone.specs.Stages.{Answered, Answering, Asking, Gone, Lone, UnderWay, lone, next_event}
 use Rattle.net_lone.proofs.Bases.{some-same}
 
--- ---- a message goes on from here to there, with or without a loss
-
-pub record Comes (a b : Lone) (lost : Bool) : Type 0 where
-  pub journal : List Event
-  pub goes : Goes a journal b
-  pub loss : has_loss journal ≡ lost
+-- ---- a message goes on
 
 comes-here : (a : Lone) → Comes a a false
 unfolding Goes
@@ -45,7 +41,7 @@ comes-here a = record {
   loss = refl;
 }
 
-comes-by : (a b c : Lone) (e : Event) (loss : Bool) → next_event a.stage ≡ Some e → lone_after a ≡ b → is_loss e ≡ false → Comes b c loss → Comes a c loss
+pub comes-by : ComesOn
 unfolding Goes
 comes-by a b c e loss next after keeps later = record {
   journal = e ∷ later.journal;
@@ -102,9 +98,7 @@ from-queue w d vc p small =
 
 -- ---- along the links over which tables lead
 
-carried : (w : State) (vc : ℕ) (p : Packet) (d : ℕ) (ds : List ℕ) (z : ℕ) (b : Lone) (loss : Bool) → vc < 2 → GoesByTable p p.body →
-    LeadsOver w.tree (exits_of w.nodes) p.dst d ds z → is_switch w.tree z ≡ false → Comes (arrived w z p p.body) b loss →
-    Comes (lone w (UnderWay (queue_of d vc) false p)) b loss
+pub carried : MessagesAreCarried
 carried w vc p d [] z b loss small goes leads end_node later =
     comes-by (lone w (UnderWay (queue_of d vc) false p)) (arrived w z p p.body) b (Hop (queue_of d vc)) loss refl
     (from-queue w d vc p small ∙ moves-in w d vc p z goes leads end_node) refl later
@@ -142,10 +136,7 @@ end-route tree nodes z dst d end_node is =
 -- ---- there and back
 
 -- an answer leaves its node, and comes to the host, or is lost
-pub answer-comes : (w : State) (x z : ℕ) (p : Packet) (d : ℕ) (ds : List ℕ) → GoesByTable p p.body →
-    arrived (has_answered w) x p p.body ≡ lone (has_answered w) (Answered x p) →
-    route_from w.tree w.nodes z p.dst ≡ Some d → LeadsOver w.tree (exits_of w.nodes) p.dst d ds x → is_switch w.tree x ≡ false →
-    Comes (lone w (Answering z p)) (lone (has_answered w) (if loses_answer w then Gone else Answered x p)) (loses_answer w)
+pub answer-comes : AnswersComeBack
 answer-comes w x z p d ds goes comes route leads end_there =
     comes-by (lone w (Answering z p)) (lone u (UnderWay (queue_of d back_vc) (loses_answer w) p)) (lone u (if loses_answer w then Gone else Answered x p)) (Reply z) (loses_answer w)
     refl (ap (λ (o : Option ℕ). entered u back_vc (loses_answer w) p o) route) refl (by_loss (loses_answer w))
@@ -158,12 +149,9 @@ answer-comes w x z p d ds goes comes route leads end_there =
     by_loss false = carried u back_vc p d ds x (lone u (Answered x p)) false (omega arith) goes leads end_there
         (subst (λ (l : Lone). Comes l (lone u (Answered x p)) false) (sym comes) (comes-here (lone u (Answered x p))))
 
--- a request leaves its host, and comes to its node, or is lost
-pub request-goes : (w : State) (x z : ℕ) (p : Packet) (d : ℕ) (ds : List ℕ) (b : Lone) (loss : Bool) → GoesByTable p p.body →
-    link_at w.tree.links x 0 ≡ Some d → LeadsOver w.tree (exits_of w.nodes) p.dst d ds z → is_switch w.tree z ≡ false →
-    Comes (arrived (has_asked w) z p p.body) b loss →
-    Comes (lone w (Asking x p)) (if loses_request w then lone (has_asked w) Gone else b) (loses_request w || loss)
-request-goes w x z p d ds b loss goes link leads end_there later =
+-- a request leaves its host, or is lost
+pub request-enters : RequestsEnter
+request-enters w x p d b loss link later =
     comes-by (lone w (Asking x p)) (lone u (UnderWay (queue_of d forward_vc) (loses_request w) p)) (if loses_request w then lone u Gone else b) (Ask x) (loses_request w || loss)
     refl (ap (λ (o : Option ℕ). entered u forward_vc (loses_request w) p o) link) refl (by_loss (loses_request w))
   where
@@ -172,7 +160,7 @@ request-goes w x z p d ds b loss goes link leads end_there later =
 
     by_loss : (m : Bool) → Comes (lone u (UnderWay (queue_of d forward_vc) m p)) (if m then lone u Gone else b) (m || loss)
     by_loss true = comes-lost (lone u (UnderWay (queue_of d forward_vc) true p)) (lone u Gone) (queue_of d forward_vc) refl refl
-    by_loss false = carried u forward_vc p d ds z b loss (omega arith) goes leads end_there later
+    by_loss false = later
 
 ack-is : (me : Epid) (c : Control) (words : Option (List ℕ)) → (acknowledged me c words).ack ≡ true
 unfolding acknowledged
@@ -236,10 +224,11 @@ control-back w x z p c settled led =
     (ack-is (own_epid w.tree z) c (outcome (place_at w z c.dst_port) c)) led.host) route
     (subst (λ (y : ℕ). LeadsOver w.tree (exits_of w.nodes) c.src led.back.first led.back.links y) returns
     (subst (λ (e : Epid). LeadsOver w.tree (exits_of w.nodes) e led.back.first led.back.links led.back.target) (sym led.source) led.back.way)) ends_here in
-    let forth = request-goes w x z p led.forth.first led.forth.links (lone (has_answered u) (if loses_answer w then Gone else Answered x ack)) (loses_answer w)
-    (control-goes p c led.body) first (subst (λ (y : ℕ). LeadsOver w.tree (exits_of w.nodes) p.dst led.forth.first led.forth.links y) comes led.forth.way) ends_there
-    (subst (λ (l : Lone). Comes l (lone (has_answered u) (if loses_answer w then Gone else Answered x ack)) (loses_answer w))
-    (sym (request-comes (has_asked w) z p c led.back.first led.body led.request route)) back) in
+    let end : Lone = lone (has_answered u) (if loses_answer w then Gone else Answered x ack) in
+    let forth = request-enters w x p led.forth.first end (loses_answer w) first
+        (carried (has_asked w) forward_vc p led.forth.first led.forth.links z end (loses_answer w) (omega arith) (control-goes p c led.body)
+            (subst (λ (y : ℕ). LeadsOver w.tree (exits_of w.nodes) p.dst led.forth.first led.forth.links y) comes led.forth.way) ends_there
+            (subst (λ (l : Lone). Comes l end (loses_answer w)) (sym (request-comes (has_asked w) z p c led.back.first led.body led.request route)) back)) in
     record {
       journal = forth.journal;
       ends = record {

@@ -1,8 +1,9 @@
 -- The laws of specs/Laws, with their proofs, for the proofs of other crates.
+use Rattle.net_lone.specs.Carrying.{AnswersComeBack, ComesOn, MessagesAreCarried, RequestsEnter}
 use Rattle.net_lone.specs.Control.{ControlComesBack}
 use Rattle.net_lone.specs.Laws as law
 use Rattle.net_lone.specs.Talks.{ControlTalks}
-use Rattle.net_lone.proofs.Control.{control-back}
+use Rattle.net_lone.proofs.Control.{answer-comes, carried, comes-by, control-back, request-enters}
 use Rattle.net_lone.proofs.Talking.{control-talks}
 use Rattle.net_lone.proofs.Ending.{answered-settled, first-goes, goes-first, none-waits, one-enabled, one-end, one-happens}
 
@@ -32,3 +33,15 @@ control_comes_back = control-back
 
 pub control_talks : ControlTalks
 control_talks = control-talks
+
+pub comes_on : ComesOn
+comes_on = comes-by
+
+pub requests_enter : RequestsEnter
+requests_enter = request-enters
+
+pub messages_are_carried : MessagesAreCarried
+messages_are_carried = carried
+
+pub answers_come_back : AnswersComeBack
+answers_come_back = answer-comes

@@ -39,3 +39,9 @@ is_loss (Ask x) = false
 -- some event of a journal does
 abbrev pub has_loss : List Event → Bool
 has_loss journal = list_any is_loss journal
+
+-- a message goes on from here to there, with or without a loss
+pub record Comes (a b : Lone) (lost : Bool) : Type 0 where
+  pub journal : List Event
+  pub goes : Goes a journal b
+  pub loss : has_loss journal ≡ lost

@@ -1,4 +1,5 @@
 //! Each law is a function that does nothing and promises it.
+ghost use Rattle.net_lone.specs.Carrying.{AnswersComeBack, ComesOn, MessagesAreCarried, RequestsEnter};
 ghost use Rattle.net_lone.specs.Control.{ControlComesBack};
 ghost use Rattle.net_lone.specs.Laws.{AnsweredIsSettled, FirstIsOfTheMessage, MessageIsFirst, NoRequestWaits, OneEnd, OneHappens, OneIsEnabled};
 ghost use Rattle.net_lone.specs.Talks.{ControlTalks};
@@ -25,4 +26,12 @@ pub fn one_message_has_one_end()
 pub fn control_requests_come_back()
     ensures message { ControlComesBack }
     ensures talk { ControlTalks }
+{}
+
+/// A message goes on step by step: a request enters, tables carry it to an end node, and an answer comes back.
+pub fn messages_are_carried()
+    ensures on { ComesOn }
+    ensures enters { RequestsEnter }
+    ensures carried { MessagesAreCarried }
+    ensures back { AnswersComeBack }
 {}
