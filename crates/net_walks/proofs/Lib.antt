@@ -1,0 +1,5 @@
+mod Backs
+mod Hops
+mod Walking
+mod Probing
+pub mod Laws

@@ -1,0 +1,56 @@
+-- What becomes of a probe: a walker that asks a node, or finds a port without a link.
+use Rattle.std.specs.Prelude.{◌≡◌, ◌≢◌, ◌||◌, ℕ, ◌<◌, ◌^◌, true, List, [], ◌∷◌, ◌++◌, map, None, Some, if◌then◌else◌}
+use Rattle.chdr_packets.specs.declared.packet.Packet.{Packet}
+use Rattle.chdr_words.specs.declared.epid.Epid.{Epid}
+use Rattle.chdr_words.specs.declared.management.MgmtOp.{MgmtOp}
+use Rattle.net_topology.specs.Links.{NoneTwice, end_of, end_port, link_at}
+use Rattle.net_topology.specs.Tree.{FitsPlan, port_count}
+use Rattle.net_topology.specs.declared.plan.Plan.{Plan}
+use Rattle.net_machine.specs.declared.event.Event.{Event}
+use Rattle.net_machine.specs.Nodes.{is_host_at, own_epid}
+use Rattle.net_machine.specs.State.{State}
+use Rattle.net_lone.specs.Control.{has_answered, has_asked, loses_answer, loses_request}
+use Rattle.net_lone.specs.Runs.{Ends, has_loss}
+use Rattle.net_lone.specs.Stages.{Answered, Asking, Gone, IsSettled, Lone, lone}
+use Rattle.net_walks.specs.Walks.{collector, hops_over, information, inquiry, onward, returner, walker}
+use Rattle.net_walks.specs.Ways.{GoesOver, last_of, left_by}
+
+-- the host x of this EPID sends walkers
+pub record SendsWalkers (w : State) (x : ℕ) (src : Epid) : Type 0 where
+  pub host : is_host_at w.tree x ≡ true
+  pub own : own_epid w.tree x ≡ src
+  pub some : 0 < src.0
+  pub fits : FitsPlan w.tree
+
+-- they go over its link d and then over these, to each node once
+pub record IsWalk (tree : Plan) (x d : ℕ) (ds : List ℕ) : Type 0 where
+  pub first : link_at tree.links x 0 ≡ Some d
+  pub goes : GoesOver tree d ds
+  pub once : NoneTwice (map (end_of tree.links) (d ∷ ds))
+
+-- What becomes of a walker that comes back from the end of its way with these hops. It is lost, or what comes back is,
+-- or that comes to the host; and on the way its entries are left.
+abbrev pub walk_end : State → ℕ → ℕ → List ℕ → Epid → List (List MgmtOp) → Lone
+walk_end w x d ds src hops =
+    if loses_request w then lone (has_asked w) Gone
+    else lone (has_answered (record (has_asked w) { nodes = left_by w.tree src d ds w.nodes })) (if loses_answer w then Gone else Answered x (returner src hops))
+
+-- a journal of a request of host x to this end, which has a loss exactly where the request or its answer is lost
+pub record WalkEnds (w : State) (x : ℕ) (p : Packet) (end : Lone) : Type 0 where
+  pub journal : List Event
+  pub ends : Ends (lone w (Asking x p)) journal end
+  pub loss : has_loss journal ≡ (loses_request w || loses_answer w)
+
+-- A probe of the node at the end of a way comes back with the node's information.
+abbrev pub ProbesComeBack : Type 0
+ProbesComeBack = (w : State) (x d : ℕ) (ds : List ℕ) (src : Epid) → IsSettled w → SendsWalkers w x src → IsWalk w.tree x d ds
+    → WalkEnds w x (walker src (hops_over w.tree.links (d ∷ ds) ++ inquiry ∷ collector ∷ []))
+    (walk_end w x d ds src (information w.tree (last_of d ds) ∷ []))
+
+-- A probe of what is behind a port of that node comes back with one hop more, if the port has no link.
+abbrev pub BarePortsSendBack : Type 0
+BarePortsSendBack = (w : State) (x d : ℕ) (ds : List ℕ) (src : Epid) (port : ℕ) → IsSettled w → SendsWalkers w x src → IsWalk w.tree x d ds
+    → port < port_count w.tree.nodes (end_of w.tree.links (last_of d ds)) → port < 2 ^ 10 → port ≢ end_port w.tree.links (last_of d ds)
+    → link_at w.tree.links (end_of w.tree.links (last_of d ds)) port ≡ None
+    → WalkEnds w x (walker src (hops_over w.tree.links (d ∷ ds) ++ onward port ∷ inquiry ∷ collector ∷ []))
+    (walk_end w x d ds src (inquiry ∷ collector ∷ []))

@@ -1,0 +1,8 @@
+//! Management packets that walk a network and come back: what they leave in tables, and what they bring.
+//!
+//! Rule: docs/control-and-discovery.md, "Discovery and routes".
+#![tactic(auto)]
+
+mod law;
+
+pub use law::walkers_come_back;
