@@ -1,12 +1,10 @@
 -- What the hops of a walk do at the nodes to which they come.
-use Rattle.std.proofs.Common.{◌≡◌, ◌≢◌, ◌==◌, ℕ, ◌+◌, ◌-◌, ◌*◌, ◌/◌, ◌%◌, ◌^◌, ◌<◌, ◌≤◌, Bool, true, false, IsTrue, List, [], ◌∷◌, ◌++◌, length, refl, sym, ◌∙◌, ap, subst, arith, eq-eqb, set, get_or, drop, zero, suc, if◌then◌else◌}
+use Rattle.std.proofs.Common.{◌≡◌, ◌≢◌, ◌==◌, ℕ, ◌-◌, ◌*◌, ◌^◌, ◌<◌, ◌≤◌, Bool, true, false, List, [], ◌∷◌, ◌++◌, length, refl, ◌∙◌, ap, arith, set, get_or, zero, suc, if◌then◌else◌}
 use Rattle.std.specs.Prelude.{Option, Some, None, All, is_some, nat_lt, not, slice_get, ◌&&◌}
 use Rattle.std.specs.Int.{bit_at}
-use Rattle.std.specs.List.{fold}
-use Rattle.std.specs.Option.{option_and_then, option_map_or}
-use Rattle.std.proofs.lemmas.Bool.{both_ways, cases_lt, false_from_ne_true, le-ltb, lt-ltb, ne_eqb}
+use Rattle.std.specs.Option.{option_map_or}
+use Rattle.std.proofs.lemmas.Bool.{both_ways, le-ltb, lt-ltb, ne_eqb}
 use Rattle.std.proofs.lemmas.List.{set-get_or}
-use Rattle.chdr_packets.specs.declared.packet.Body.TheVariants as body
 use Rattle.chdr_packets.specs.declared.packet.Packet.{Packet}
 use Rattle.chdr_words.specs.Field.{field}
 use Rattle.chdr_words.specs.declared.epid.Epid.{Epid}
@@ -15,7 +13,7 @@ use Rattle.chdr_words.specs.declared.management.MgmtOp.{MgmtOp}
 use Rattle.net_nodes.specs.Perform.{Work, exit_by, has_link, info_answer, last_hop, performed, without_first, work_of}
 use Rattle.net_nodes.specs.Table.{with_exit}
 use Rattle.net_nodes.specs.declared.site.Done.{Done}
-use Rattle.net_nodes.specs.declared.site.Done.TheVariants.{Forward, Return, NoSuchPort, Dead}
+use Rattle.net_nodes.specs.declared.site.Done.TheVariants.{Forward, Return, NoSuchPort}
 use Rattle.net_nodes.specs.declared.site.Site.{Site}
 use Rattle.net_nodes.specs.declared.table.Place.{Place}
 use Rattle.net_topology.specs.Links.{end_of, end_port, link_at}
@@ -26,12 +24,12 @@ use Rattle.net_topology.specs.declared.plan.NodePlan.TheVariants.{Crossbar, Adap
 use Rattle.net_topology.specs.declared.plan.Plan.{Plan}
 use Rattle.net_topology.proofs.Laws.{bits_tell_links, links_join_ports}
 use Rattle.net_machine.specs.Nodes.{planned, site_at, site_by}
-use Rattle.net_machine.specs.Passing.{Arrives, Ends, Outcome, Passes, Passing, Returns, leaves_by, walked_by, walking, walks, with_table}
+use Rattle.net_machine.specs.Passing.{Ends, Passes, Passing, leaves_by, walked_by, walks, with_table}
 use Rattle.net_machine.specs.Plans.{no_epid}
 use Rattle.net_machine.specs.Queues.{forward_vc, queue_of}
 use Rattle.net_machine.specs.State.{Node, State, node_in}
 use Rattle.net_lone.specs.Lone.{answering_at, moved_over, passed_so}
-use Rattle.net_lone.specs.Stages.{Lone, UnderWay, lone}
+use Rattle.net_lone.specs.Stages.{UnderWay, lone}
 use Rattle.net_walks.specs.Walks.{advertised_at, collector, information, inquiry, onward, returner, walk, walker}
 
 -- ---- lists of hops
@@ -74,7 +72,7 @@ bit-tells tree x ports port small there false is =
     let law = (bits_tell_links tree x ports).1 port there in
     let low : nat_lt port 32 ≡ true = lt-ltb port 32 small in
     let none : (bit_at (link_bits tree.links x ports) port == 1) ≡ false =
-        ne_eqb (bit_at (link_bits tree.links x ports) port) 1 (λ one. both_ways (is_some (link_at tree.links x port)) is (law.0 one)) in
+    ne_eqb (bit_at (link_bits tree.links x ports) port) 1 (λ one. both_ways (is_some (link_at tree.links x port)) is (law.0 one)) in
     λ i. low i && none i
 
 -- a node of a plan fits, if it is there
@@ -154,7 +152,7 @@ onward-at : (w : State) → IsTree w.tree → FitsPlan w.tree → (d : ℕ) → 
     is_some (link_at w.tree.links (end_of w.tree.links d) port) ≡ b →
     moved_over w d forward_vc (walker src (onward port ∷ r ∷ rs))
     ≡ passed_so w d forward_vc (walker src (onward port ∷ r ∷ rs)) (leaves-so w.tree w.nodes (end_of w.tree.links d) (walker src (onward port ∷ r ∷ rs)) (walk src (r ∷ rs))
-        (if b then Forward port else NoSuchPort port) (with_exit (node_in w.nodes (end_of w.tree.links d)).table src (end_port w.tree.links d)))
+    (if b then Forward port else NoSuchPort port) (with_exit (node_in w.nodes (end_of w.tree.links d)).table src (end_port w.tree.links d)))
 onward-at w tree fits d lt src port r rs there small other b linked =
     let x = end_of w.tree.links d in
     let site = site_at w.tree x (end_port w.tree.links d) in
@@ -184,7 +182,7 @@ pub onward-returns : (w : State) → IsTree w.tree → FitsPlan w.tree → (d : 
     port < port_count w.tree.nodes (end_of w.tree.links d) → port < 2 ^ 10 → port ≢ end_port w.tree.links d → link_at w.tree.links (end_of w.tree.links d) port ≡ None →
     moved_over w d forward_vc (walker src (onward port ∷ r ∷ rs))
     ≡ lone (record w { nodes = advertised_at w.tree src d w.nodes })
-        (answering_at (record w { nodes = advertised_at w.tree src d w.nodes }) (end_of w.tree.links d) (returner src (r ∷ rs)))
+    (answering_at (record w { nodes = advertised_at w.tree src d w.nodes }) (end_of w.tree.links d) (returner src (r ∷ rs)))
 onward-returns w tree fits d lt src port r rs there small other link =
     onward-at w tree fits d lt src port r rs there small other false (ap (λ (o : Option ℕ). is_some o) link)
 
@@ -192,9 +190,9 @@ onward-returns w tree fits d lt src port r rs there small other link =
 pub inquiry-returns : (w : State) → IsTree w.tree → (d : ℕ) → d < 2 * length w.tree.links → (src : Epid) →
     moved_over w d forward_vc (walker src (inquiry ∷ collector ∷ []))
     ≡ lone (record w { nodes = advertised_at w.tree src d w.nodes })
-        (answering_at (record w { nodes = advertised_at w.tree src d w.nodes }) (end_of w.tree.links d) (returner src (information w.tree d ∷ [])))
+    (answering_at (record w { nodes = advertised_at w.tree src d w.nodes }) (end_of w.tree.links d) (returner src (information w.tree d ∷ [])))
 inquiry-returns w tree d lt src =
     let x = end_of w.tree.links d in
     let table = (node_in w.nodes x).table in
     ap (λ (a : ℕ). passed_so w d forward_vc (walker src (inquiry ∷ collector ∷ []))
-        (leaves-so w.tree w.nodes x (walker src (inquiry ∷ collector ∷ [])) (walk src (information w.tree d ∷ [])) Return (with_exit table src a))) (arrival-is w.tree tree d lt)
+    (leaves-so w.tree w.nodes x (walker src (inquiry ∷ collector ∷ [])) (walk src (information w.tree d ∷ [])) Return (with_exit table src a))) (arrival-is w.tree tree d lt)

@@ -1,14 +1,13 @@
 -- Walkers come back from the ends of their ways.
-use Rattle.std.proofs.Common.{◌≡◌, ◌≢◌, ◌==◌, ℕ, ◌*◌, ◌<◌, ◌≤◌, Bool, true, false, List, [], ◌∷◌, ◌++◌, length, map, refl, sym, ◌∙◌, ap, subst, arith, if◌then◌else◌}
-use Rattle.std.specs.Prelude.{Option, Some, None, unwrap_or, ◌||◌}
+use Rattle.std.proofs.Common.{◌≡◌, ℕ, ◌*◌, ◌<◌, Bool, true, false, List, [], ◌∷◌, ◌++◌, length, refl, sym, ◌∙◌, ap, subst, arith, if◌then◌else◌}
+use Rattle.std.specs.Prelude.{Option, Some, None, unwrap_or}
 use Rattle.std.specs.Option.{option_and_then, option_map_or}
 use Rattle.std.proofs.lemmas.Bool.{ne_eqb}
 use Rattle.chdr_packets.specs.declared.packet.Packet.{Packet}
 use Rattle.chdr_words.specs.declared.epid.Epid.{Epid}
 use Rattle.chdr_words.specs.declared.management.MgmtOp.{MgmtOp}
-use Rattle.net_nodes.specs.Table.{exit_of, has_place}
-use Rattle.net_topology.specs.Leads.{LeadsOver, has_table}
-use Rattle.net_topology.specs.Links.{back_of, end_of, end_port, link_at, start_of}
+use Rattle.net_topology.specs.Leads.{has_table}
+use Rattle.net_topology.specs.Links.{back_of, end_of, end_port, link_at}
 use Rattle.net_topology.specs.Tree.{IsTree, epid_at, epid_of, port_count, ports_of}
 use Rattle.net_topology.specs.declared.plan.NodePlan.{NodePlan}
 use Rattle.net_topology.specs.declared.plan.NodePlan.TheVariants.{Crossbar, Adapter, Host, Endpoint}
@@ -16,12 +15,12 @@ use Rattle.net_topology.specs.declared.plan.Plan.{Plan}
 use Rattle.net_topology.proofs.Laws.{links_join_ports, links_leave_by_ports}
 use Rattle.net_machine.specs.Nodes.{exits_of, is_host, is_host_at, is_switch, own_epid, planned, route_from}
 use Rattle.net_machine.specs.Plans.{no_epid}
-use Rattle.net_machine.specs.Queues.{forward_vc, queue_of}
-use Rattle.net_machine.specs.State.{Node, State, node_in}
+use Rattle.net_machine.specs.Queues.{forward_vc}
+use Rattle.net_machine.specs.State.{Node, State}
 use Rattle.net_lone.specs.Control.{has_answered, has_asked, loses_answer, loses_request}
 use Rattle.net_lone.specs.Lone.{answering_at, moved_over}
 use Rattle.net_lone.specs.Runs.{Comes}
-use Rattle.net_lone.specs.Stages.{Answered, Answering, Asking, Gone, IsSettled, Lone, lone, next_event}
+use Rattle.net_lone.specs.Stages.{Answered, Answering, Gone, IsSettled, Lone, lone, next_event}
 use Rattle.net_lone.proofs.Laws.{answers_come_back, requests_enter}
 use Rattle.net_walks.specs.Probes.{BarePortsSendBack, IsWalk, ProbesComeBack, SendsWalkers, WalkEnds, walk_end}
 use Rattle.net_walks.specs.Walks.{advertised_at, collector, hops_over, information, inquiry, onward, returner, walker}
@@ -128,17 +127,17 @@ walk-back w x d ds src h r rs hops settled sends walk final =
     let epid : epid_at w.tree.nodes x ≡ Some src = host-epid w.tree x sends.host ∙ ap (λ (e : Epid). Some e) sends.own in
     let have : AllHavePlaces w.tree src w.nodes = λ y switch. settled.places y x src switch epid in
     let route : route_from w.tree v.nodes z src ≡ Some (back_of l) =
-        last-route w.tree tree src l last_lt (passed_over w.tree src d ds w.nodes) (long-over w.tree src d ds w.nodes ∙ settled.nodes) (places-over w.tree src d ds w.nodes have) in
+    last-route w.tree tree src l last_lt (passed_over w.tree src d ds w.nodes) (long-over w.tree src d ds w.nodes ∙ settled.nodes) (places-over w.tree src d ds w.nodes have) in
     let entries = entries-left w.tree tree src d lt ds w.nodes walk.goes walk.once settled.nodes have in
     let begins : end_of w.tree.links (back_of d) ≡ x = end-back w.tree.links d ∙ (links_leave_by_ports w.tree d x 0 walk.first).0 in
     let further = back-from w.tree tree v.nodes src x d lt ds [] begins walk.goes entries in
     let end : Lone = lone (has_answered v) (if loses_answer w then Gone else Answered x back) in
     let comes = answers_come_back v x z back (back_of l) further.0 (ne_eqb src.0 0 (λ none. omega (arith, none, sends.some)))
-        (ap (λ b. lone (has_answered v) (if b then Answered x back else Gone)) sends.host) route further.1 (host-ends w.tree x sends.host) in
+    (ap (λ b. lone (has_answered v) (if b then Answered x back else Gone)) sends.host) route further.1 (host-ends w.tree x sends.host) in
     let at_last : moved_over (record (has_asked w) { nodes = passed_over w.tree src d ds w.nodes }) l forward_vc (walker src (h ∷ r ∷ rs)) ≡ lone v (Answering z back) =
-        final ∙ ap (λ (o : Option ℕ). lone v (option_map_or (λ (e : ℕ). Answering z back) o Gone)) route in
+    final ∙ ap (λ (o : Option ℕ). lone v (option_map_or (λ (e : ℕ). Answering z back) o Gone)) route in
     let walked = walks-over (has_asked w) tree sends.fits src d lt ds walk.goes h r rs end (loses_answer w)
-        (subst (λ (m : Lone). Comes m end (loses_answer w)) (sym at_last) comes) in
+    (subst (λ (m : Lone). Comes m end (loses_answer w)) (sym at_last) comes) in
     let it = requests_enter w x (walker src (hops_over w.tree.links (d ∷ ds) ++ h ∷ r ∷ rs)) d end (loses_answer w) walk.first walked in
     record {
       journal = it.journal;
@@ -153,10 +152,10 @@ pub probes-back : ProbesComeBack
 probes-back w x d ds src settled sends walk =
     walk-back w x d ds src inquiry collector [] (information w.tree (last_of d ds) ∷ []) settled sends walk
     (inquiry-returns (record (has_asked w) { nodes = passed_over w.tree src d ds w.nodes }) settled.queues.tree (last_of d ds)
-        (last-there w.tree d (links_leave_by_ports w.tree d x 0 walk.first).2 ds walk.goes) src)
+    (last-there w.tree d (links_leave_by_ports w.tree d x 0 walk.first).2 ds walk.goes) src)
 
 pub bare-back : BarePortsSendBack
 bare-back w x d ds src port settled sends walk there small other bare =
     walk-back w x d ds src (onward port) inquiry (collector ∷ []) (inquiry ∷ collector ∷ []) settled sends walk
     (onward-returns (record (has_asked w) { nodes = passed_over w.tree src d ds w.nodes }) settled.queues.tree sends.fits (last_of d ds)
-        (last-there w.tree d (links_leave_by_ports w.tree d x 0 walk.first).2 ds walk.goes) src port inquiry (collector ∷ []) there small other bare)
+    (last-there w.tree d (links_leave_by_ports w.tree d x 0 walk.first).2 ds walk.goes) src port inquiry (collector ∷ []) there small other bare)

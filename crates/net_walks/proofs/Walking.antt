@@ -1,8 +1,8 @@
 -- A walker goes over links to a node, and what the node answers comes back by the entries that the walker left.
-use Rattle.std.proofs.Common.{◌≡◌, ◌≢◌, ◌==◌, ℕ, ◌+◌, ◌*◌, ◌<◌, ◌≤◌, ◌⊎◌, inl, inr, Bool, true, false, List, [], ◌∷◌, ◌++◌, length, map, refl, sym, ◌∙◌, ap, subst, arith, eq-eqb, if◌then◌else◌}
-use Rattle.std.specs.Prelude.{Option, Some, None, ◌&&◌, ◌||◌}
-use Rattle.std.specs.Option.{option_and_then, option_map_or}
-use Rattle.std.proofs.lemmas.Bool.{both_ways, ne_eqb}
+use Rattle.std.proofs.Common.{◌≡◌, ◌≢◌, ◌==◌, ℕ, ◌*◌, ◌<◌, Bool, true, false, List, [], ◌∷◌, ◌++◌, length, map, refl, sym, ◌∙◌, ap, subst, arith, eq-eqb, if◌then◌else◌}
+use Rattle.std.specs.Prelude.{Some, None, ◌&&◌, ◌||◌}
+use Rattle.std.specs.Option.{option_and_then}
+use Rattle.std.proofs.lemmas.Bool.{ne_eqb}
 use Rattle.std.proofs.lemmas.List.{get_or-set_other, get_or-set_same, length-set}
 use Rattle.rf_base.proofs.Places.{one-set}
 use Rattle.chdr_words.specs.declared.epid.Epid.{Epid}
@@ -10,7 +10,7 @@ use Rattle.chdr_words.specs.declared.management.MgmtOp.{MgmtOp}
 use Rattle.net_nodes.specs.Table.{exit_of, has_place, with_exit}
 use Rattle.net_nodes.specs.declared.table.Place.{Place}
 use Rattle.net_nodes.proofs.Laws.{tables_are_maps}
-use Rattle.net_topology.specs.Leads.{LeadsOver, sent_on, turned_to}
+use Rattle.net_topology.specs.Leads.{LeadsOver, sent_on}
 use Rattle.net_topology.specs.Links.{Avoids, NoneTwice, back_of, end_of, end_port, link_at, start_of, start_port}
 use Rattle.net_topology.specs.Tree.{FitsPlan, IsTree}
 use Rattle.net_topology.specs.declared.plan.Plan.{Plan}
@@ -51,7 +51,7 @@ next-goes : (w : State) → IsTree w.tree → FitsPlan w.tree → (d e : ℕ) �
     ≡ lone (record w { nodes = advertised_at w.tree src d w.nodes }) (UnderWay (queue_of e forward_vc) false (walker src rest))
 next-goes w tree fits d e lt next src rest first others is =
     subst (λ (hops : List (List MgmtOp)). moved_over w d forward_vc (walker src (onward (start_port w.tree.links e) ∷ hops))
-        ≡ lone (record w { nodes = advertised_at w.tree src d w.nodes }) (UnderWay (queue_of e forward_vc) false (walker src hops))) (sym is)
+    ≡ lone (record w { nodes = advertised_at w.tree src d w.nodes }) (UnderWay (queue_of e forward_vc) false (walker src hops))) (sym is)
     (onward-goes w tree fits d lt src (start_port w.tree.links e) e first others next.port next.small next.other next.link)
 
 pub walks-over : (w : State) → IsTree w.tree → FitsPlan w.tree → (src : Epid) (d : ℕ) → d < 2 * length w.tree.links → (ds : List ℕ) → GoesOver w.tree d ds →
@@ -123,8 +123,8 @@ AllHavePlaces tree src nodes = (x : ℕ) → is_switch tree x ≡ true → has_p
 pub places-stay : (tree : Plan) (src : Epid) (d : ℕ) (nodes : List Node) → AllHavePlaces tree src nodes → AllHavePlaces tree src (advertised_at tree src d nodes)
 places-stay tree src d nodes have x switch =
     one-set {B = Node} (λ y m n. has_place m.table src ≡ has_place n.table src) nodes nodes blank blank
-        (record (node_in nodes (end_of tree.links d)) { table = with_exit (node_in nodes (end_of tree.links d)).table src (end_port tree.links d) }) (end_of tree.links d)
-        (λ y. refl) (exit-places (node_in nodes (end_of tree.links d)).table src src (end_port tree.links d)) x
+    (record (node_in nodes (end_of tree.links d)) { table = with_exit (node_in nodes (end_of tree.links d)).table src (end_port tree.links d) }) (end_of tree.links d)
+    (λ y. refl) (exit-places (node_in nodes (end_of tree.links d)).table src src (end_port tree.links d)) x
     ∙ have x switch
 
 pub long-stays : (tree : Plan) (src : Epid) (d : ℕ) (nodes : List Node) → length (advertised_at tree src d nodes) ≡ length nodes
@@ -135,8 +135,7 @@ pub entries-left : (tree : Plan) → IsTree tree → (src : Epid) (d : ℕ) → 
     HaveEntries tree src d ds (left_by tree src d ds nodes)
 entries-left tree is src d lt [] nodes goes once long have = tt
 entries-left tree is src d lt (e ∷ ds) nodes goes once long have =
-    let at : end_of tree.links d < length nodes = subst (λ n. end_of tree.links d < n) (sym long) (links_join_ports tree is d lt).1 in
-    (
+    let at : end_of tree.links d < length nodes = subst (λ n. end_of tree.links d < n) (sym long) (links_join_ports tree is d lt).1 in (
       ap (λ (n : Node). exit_of n.table src) (left-other tree src e ds (advertised_at tree src d nodes) (end_of tree.links d) once.0)
           ∙ advertise-here tree src d nodes at (have (end_of tree.links d) goes.0.switch),
       entries-left tree is src e goes.0.there ds (advertised_at tree src d nodes) goes.1 once.1 (long-stays tree src d nodes ∙ long) (places-stay tree src d nodes have),
@@ -153,7 +152,7 @@ turns-back tree is nodes src d e lt next entry =
     let starts : start_of links e ≡ end_of links d = (links_leave_by_ports tree e (end_of links d) (start_port links e) next.link).0 in
     let ends : end_of links (back_of e) ≡ end_of links d = end-back links e ∙ starts in
     let other : (end_port links d == end_port links (back_of e)) ≡ false =
-        ap (λ (p : ℕ). end_port links d == p) (end_port-back links e) ∙ ne_eqb (end_port links d) (start_port links e) (λ same. next.other (sym same)) in
+    ap (λ (p : ℕ). end_port links d == p) (end_port-back links e) ∙ ne_eqb (end_port links d) (start_port links e) (λ same. next.other (sym same)) in
     let switch = next.switch in
     (λ i. if is_switch tree (ends i) then option_and_then (λ port. if port == end_port links (back_of e) then None else link_at links (ends i) port) (exits_of nodes (ends i) src) else None)
     ∙ (λ i. if switch i then option_and_then (λ port. if port == end_port links (back_of e) then None else link_at links (end_of links d) port) (entry i) else None)
