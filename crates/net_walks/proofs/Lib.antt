@@ -2,4 +2,5 @@ mod Backs
 mod Hops
 mod Walking
 mod Probing
+mod Following
 pub mod Laws

@@ -41,7 +41,7 @@ host-epid tree x is = by_node (planned tree x) is
     by_node (Some (Host own)) h = refl
     by_node (Some (Endpoint own bank)) h = let z : ◌≡◌ {A = Bool} false true = h in absurd cc
 
-host-ends : (tree : Plan) (x : ℕ) → is_host_at tree x ≡ true → is_switch tree x ≡ false
+pub host-ends : (tree : Plan) (x : ℕ) → is_host_at tree x ≡ true → is_switch tree x ≡ false
 host-ends tree x is = by_node (planned tree x) is
   where
     by_node : (o : Option NodePlan) → option_map_or is_host o false ≡ true → option_map_or has_table o false ≡ false
@@ -52,7 +52,7 @@ host-ends tree x is = by_node (planned tree x) is
     by_node (Some (Endpoint own bank)) h = refl
 
 -- a node without a table has one port at most
-one-port : (tree : Plan) (z port : ℕ) → is_switch tree z ≡ false → port < port_count tree.nodes z → port ≡ 0
+pub one-port : (tree : Plan) (z port : ℕ) → is_switch tree z ≡ false → port < port_count tree.nodes z → port ≡ 0
 one-port tree z port is lt = by_node (planned tree z) is lt
   where
     by_node : (o : Option NodePlan) → option_map_or has_table o false ≡ false → port < option_map_or ports_of o 0 → port ≡ 0

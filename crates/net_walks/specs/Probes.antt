@@ -3,8 +3,8 @@ use Rattle.std.specs.Prelude.{◌≡◌, ◌≢◌, ◌||◌, ℕ, ◌<◌, ◌^
 use Rattle.chdr_packets.specs.declared.packet.Packet.{Packet}
 use Rattle.chdr_words.specs.declared.epid.Epid.{Epid}
 use Rattle.chdr_words.specs.declared.management.MgmtOp.{MgmtOp}
-use Rattle.net_topology.specs.Links.{NoneTwice, end_of, end_port, link_at}
-use Rattle.net_topology.specs.Tree.{FitsPlan, port_count}
+use Rattle.net_topology.specs.Links.{IsWay, NoneTwice, end_of, end_port, link_at}
+use Rattle.net_topology.specs.Tree.{FitsPlan, IsTree, port_count}
 use Rattle.net_topology.specs.declared.plan.Plan.{Plan}
 use Rattle.net_machine.specs.declared.event.Event.{Event}
 use Rattle.net_machine.specs.Nodes.{is_host_at, own_epid}
@@ -27,6 +27,11 @@ pub record IsWalk (tree : Plan) (x d : ℕ) (ds : List ℕ) : Type 0 where
   pub first : link_at tree.links x 0 ≡ Some d
   pub goes : GoesOver tree d ds
   pub once : NoneTwice (map (end_of tree.links) (d ∷ ds))
+
+-- The way from a host to any node is such a walk.
+abbrev pub WaysAreWalks : Type 0
+WaysAreWalks = (tree : Plan) (x z d : ℕ) (ds : List ℕ) → IsTree tree → FitsPlan tree → is_host_at tree x ≡ true → IsWay tree.links x z (d ∷ ds)
+    → IsWalk tree x d ds
 
 -- What becomes of a walker that comes back from the end of its way with these hops. It is lost, or what comes back is,
 -- or that comes to the host; and on the way its entries are left.

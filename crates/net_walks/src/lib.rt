@@ -5,4 +5,4 @@
 
 mod law;
 
-pub use law::walkers_come_back;
+pub use law::{walkers_come_back, ways_are_walks};
