@@ -6,8 +6,8 @@ use Rattle.rf_script_types.specs.declared.command.ScriptCommand.{ScriptCommand}
 use Rattle.rf_script_types.specs.declared.command.ScriptCommand.TheVariants as command
 use Rattle.script_books.specs.declared.book.Book.{Book}
 use Rattle.script_worlds.specs.Books.{IsQuietBook}
-use Rattle.script_worlds.specs.WorldView.{WorldSeen, new_net}
-use Rattle.script_worlds.specs.Worlds.{IsNext, plan_of, unless_refused}
+use Rattle.script_worlds.specs.WorldView.{BuiltStands, WorldSeen, new_net}
+use Rattle.script_worlds.specs.Worlds.{IsNext, UnlessRefused, plan_of, unless_refused}
 
 -- events happen in the network while the command is performed
 abbrev pub lets_events_happen : ScriptCommand → Bool
@@ -35,12 +35,19 @@ abbrev pub slots_after : ScriptCommand → Book → List (Option Registers) → 
 slots_after (command.Unload port) told slots = unless_refused told slots (slice_set slots port None)
 slots_after c told slots = slots
 
+-- the net of a net command that was done stands for its network
+abbrev pub StandsAfter : ScriptCommand → Book → Type 0
+StandsAfter (command.Net nodes links room routed limit) told =
+    UnlessRefused told (BuiltStands (plan_of nodes links room limit) routed)
+StandsAfter c told = Unit {0}
+
 -- the command was performed, with this book
 pub record IsPerformed (c : ScriptCommand) (old new : WorldSeen) (slots left : List (Option Registers)) (told : Book) : Type 0 where
   pub book : IsQuietBook old.setup slots c told
   pub setup : IsNext old.setup c told new.setup
   pub net : new.net ≡ net_after c told old.net
   pub banks : left ≡ slots_after c told slots
+  pub stands : StandsAfter c told
 
 -- the command lets events happen, and nothing was done
 pub record IsPassed (c : ScriptCommand) (old new : WorldSeen) (slots left : List (Option Registers)) : Type 0 where

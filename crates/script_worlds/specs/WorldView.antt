@@ -2,7 +2,9 @@
 use Rattle.std.specs.Prelude.{◌≡◌, Bool, List, [], Option, None, Some}
 use Rattle.fabric_events.specs.Begun.{built_now}
 use Rattle.fabric_net.specs.NetView.{NetSeen}
-use Rattle.fabric_net.specs.Standing.{IsResting}
+use Rattle.block_registers.specs.Registers.{Registers}
+use Rattle.fabric_net.specs.Standing.{IsResting, StandsFor}
+use Rattle.net_machine.specs.Begin.{built}
 use Rattle.net_machine.specs.State.{Node}
 use Rattle.net_topology.specs.declared.plan.Plan.{Plan}
 use Rattle.run_plans.specs.Layouts.{IsLayout, StandIn}
@@ -49,3 +51,7 @@ pub record IsSound (world : Inside) : Type 0 where
   pub layout : IsLayout world.graph.diagram world.layout
   pub stands : StandsOn world.topology world.layout
   pub ready : AreReady world.topology world.net
+
+-- a net as it is built stands for the network as it is built, over any banks
+abbrev pub BuiltStands : Plan → Bool → Type 0
+BuiltStands tree routed = (banks : List (Option Registers)) → StandsFor (built_now tree routed) (built tree routed banks)

@@ -94,6 +94,11 @@ abbrev pub IsAfterCommit : Book → Setup → Setup → Type 0
 IsAfterCommit (book.Refused refusal) old new = new ≡ old
 IsAfterCommit told old new = IsSettled old new
 
+-- what holds unless the command was refused
+abbrev pub UnlessRefused : Book → Type 0 → Type 0
+UnlessRefused (book.Refused refusal) Done = Unit {0}
+UnlessRefused told Done = Done
+
 -- what a walk found
 abbrev pub found_in : Book → Option Found → Option Found
 found_in (book.Discover found) old = Some found

@@ -6,8 +6,8 @@ ghost use Rattle.property_resolver.specs.Outcome.{IsCommitted, OkWhereSettled, U
 ghost use Rattle.run_plans.specs.Layouts.{FitsPlaced, FitsValue};
 ghost use Rattle.stream_endpoint.specs.Flow.{IsValid};
 ghost use Rattle.script_worlds.specs.Books.{IsBlockBook, IsCommitBook, IsConnectBook, IsNetBook, IsSetBook, IsUnloadBook};
-ghost use Rattle.script_worlds.specs.WorldView.{new_net};
-ghost use Rattle.script_worlds.specs.Worlds.{IsAfterCommit, unless_refused, with_joined, with_placed, with_set, with_tree};
+ghost use Rattle.script_worlds.specs.WorldView.{BuiltStands, new_net};
+ghost use Rattle.script_worlds.specs.Worlds.{IsAfterCommit, UnlessRefused, unless_refused, with_joined, with_placed, with_set, with_tree};
 
 use crate::World;
 use crate::told::{of_block, of_connect};
@@ -29,6 +29,7 @@ impl World {
         ensures book { IfOk result (IsNetBook plan.now) }
         ensures setup { IfOk result (λ book. self.new.setup ≡ unless_refused book self.old.setup (with_tree plan.now)) }
         ensures net { IfOk result (λ book. self.new.net ≡ unless_refused book self.old.net (Some (new_net plan.now routed))) }
+        ensures machine { IfOk result (λ book. UnlessRefused book (BuiltStands plan.now routed)) }
     {
         let alloc = self.alloc;
         match Topology::check(alloc, plan) {
