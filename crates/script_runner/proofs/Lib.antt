@@ -1,0 +1,4 @@
+pub mod Quiet
+pub mod Running
+pub mod Lists
+pub mod Reading

@@ -1,0 +1,5 @@
+pub mod ScriptWorlds
+pub mod Performed
+pub mod Standing
+pub mod FaultLines
+pub mod Outcome

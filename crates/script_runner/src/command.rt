@@ -1,0 +1,51 @@
+ghost use Rattle.std.specs.Prelude.{ℕ, IfOk};
+ghost use Rattle.rf_script_types.specs.Fits.{FitsCommand};
+ghost use Rattle.script_runner.specs.ScriptWorlds.{ScriptWorld};
+ghost use Rattle.script_runner.specs.Standing.{Performs, WorldStandsFor};
+
+use crate::runs::run;
+use block_registers::RegisterSlots;
+use net_machine::Seed;
+use rf_base::Memory;
+use rf_script_types::ScriptCommand;
+use script_books::{Book, Refusal};
+use script_worlds::World;
+use std::alloc::Global;
+
+/// Performs one command on one thread, and returns its book.
+///
+/// Walks, routes, control requests, twins and duplexes aren't performed: their book is `Refused(NotBuilt)`. After
+/// `Memory` the world is only good to be dropped. Rule: docs/scripts-and-reports.md.
+pub fn run_command_one<B: RegisterSlots>(
+    alloc: Global,
+    world: &mut World,
+    command: &ScriptCommand,
+    banks: &mut B,
+) -> Result<Book, Memory>
+    requires { (version : ℕ) × FitsCommand version command.now }
+    ensures { IfOk result (λ book. (w : ScriptWorld) → WorldStandsFor world.old (B.slots banks.old) w →
+        Performs w command.now book world.new (B.slots banks.new)) }
+{
+    if let Some(book) = world.perform(command, banks)? {
+        return Ok(book);
+    }
+    match command {
+        ScriptCommand::Run {
+            seed,
+            trace: _,
+            peak: _,
+            lose,
+        } => run(alloc, world, banks, Seed(*seed), lose),
+        ScriptCommand::Discover { .. }
+        | ScriptCommand::Route { .. }
+        | ScriptCommand::Control { .. }
+        | ScriptCommand::Twin { .. }
+        | ScriptCommand::Duplex { .. } => Ok(Book::Refused(Refusal::NotBuilt)),
+        ScriptCommand::Net { .. }
+        | ScriptCommand::Unload { .. }
+        | ScriptCommand::Block { .. }
+        | ScriptCommand::Connect { .. }
+        | ScriptCommand::Set { .. }
+        | ScriptCommand::Commit => unreachable!(),
+    }
+}

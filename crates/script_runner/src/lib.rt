@@ -1,0 +1,15 @@
+//! A script performed on one thread: the book of each command, and the report that tells them.
+//!
+//! Rule: docs/scripts-and-reports.md.
+#![tactic(auto)]
+
+mod command;
+mod fault_text;
+mod runs;
+mod script;
+mod top;
+
+pub use command::run_command_one;
+pub use script::perform_all;
+pub use script_worlds::World;
+pub use top::{perform_script, run_script_one};
