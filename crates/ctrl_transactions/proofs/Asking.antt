@@ -112,7 +112,7 @@ may-ask p w host dst request x stands settled seq fits asks node led =
     let tree : IsTree p.tree = subst (λ (t : Plan). IsTree t) (sym stands.now.tree) stands.lawful.steady.queues.tree in
     let link : link_at w.tree.links x 0 ≡ Some led.first = ap (λ (t : Plan). link_at t.links x 0) (sym stands.now.tree) ∙ first-there p host.epid dst x node.node led in
     let none : (node_in p.nodes x).requests ≡ [] =
-        ap (λ (ns : List Node). (node_in ns x).requests) stands.now.nodes ∙ no_request_waits w x led.first (settled_states p w stands settled) link in
+    ap (λ (ns : List Node). (node_in ns x).requests) stands.now.nodes ∙ no_request_waits w x led.first (settled_states p w stands settled) link in
     record {
       host = node.host;
       few = subst (λ (ps : List Packet). length ps < 8) (sym none) (omega arith);
@@ -146,9 +146,9 @@ led-control p w host dst request x z stands asks node target forth back =
     let tree = stands.now.tree in
     let nodes = stands.now.nodes in
     let own : host.epid ≡ own_epid w.tree x =
-        sym (own-is w.tree host.epid x stands.lawful.steady.queues.tree (ap (λ (t : Plan). node_with t.nodes host.epid) (sym tree) ∙ node.node)) in
+    sym (own-is w.tree host.epid x stands.lawful.steady.queues.tree (ap (λ (t : Plan). node_with t.nodes host.epid) (sym tree) ∙ node.node)) in
     let here : (a b : Epid) → IsLed p a b → IsLedTo w a b = λ a b led. subst (λ (t : Plan). Leads t (exits_of w.nodes) a b) tree
-        (subst (λ (ns : List Node). Leads p.tree (exits_of ns) a b) nodes led) in
+    (subst (λ (ns : List Node). Leads p.tree (exits_of ns) a b) nodes led) in
     record {
       body = refl;
       request = asks;
@@ -200,7 +200,7 @@ pub asked : (before after : Desk) (dst : Epid) (request : Control) (x : ℕ) (fo
     ack ≡ option_and_then control_in found → after.host ≡ next_host before.host → HasAsked before dst request ack after
 asked before after dst request x found ack some settled asks node forth back talked is counts =
     let here = λ (w : State) (stands : StandsFor before.net.present w) (same : w.banks ≡ before.banks).
-        asked-in before after dst request x forth.target found ack settled asks node forth.to forth back talked is w stands same in
+    asked-in before after dst request x forth.target found ack settled asks node forth.to forth back talked is w stands same in
     let one = some before.banks in
     let it = here one.0 one.1 one.2 in
     record {
@@ -242,4 +242,4 @@ pub asked-as : (host seen : HostSeen) (old new : NetSeen) (banks left : List (Op
 asked-as host seen old new banks left dst request x packet found ack same some settled asks node forth back is talked ack_is =
     subst (λ (it : HostSeen). HasAsked (record { host = it; net = old; banks = banks }) dst request ack (record { host = next_host host; net = new; banks = left })) same
     (asked (record { host = host; net = old; banks = banks }) (record { host = next_host host; net = new; banks = left }) dst request x found ack some settled asks node forth back
-        (subst (λ (p : Packet). HasTalked old banks x p found new left) (is ∙ ap (λ (it : HostSeen). request_of it dst request) (sym same)) talked) ack_is refl)
+    (subst (λ (p : Packet). HasTalked old banks x p found new left) (is ∙ ap (λ (it : HostSeen). request_of it dst request) (sym same)) talked) ack_is refl)

@@ -226,9 +226,9 @@ control-back w x z p c settled led =
     (subst (λ (e : Epid). LeadsOver w.tree (exits_of w.nodes) e led.back.first led.back.links led.back.target) (sym led.source) led.back.way)) ends_here in
     let end : Lone = lone (has_answered u) (if loses_answer w then Gone else Answered x ack) in
     let forth = request-enters w x p led.forth.first end (loses_answer w) first
-        (carried (has_asked w) forward_vc p led.forth.first led.forth.links z end (loses_answer w) (omega arith) (control-goes p c led.body)
-            (subst (λ (y : ℕ). LeadsOver w.tree (exits_of w.nodes) p.dst led.forth.first led.forth.links y) comes led.forth.way) ends_there
-            (subst (λ (l : Lone). Comes l end (loses_answer w)) (sym (request-comes (has_asked w) z p c led.back.first led.body led.request route)) back)) in
+    (carried (has_asked w) forward_vc p led.forth.first led.forth.links z end (loses_answer w) (omega arith) (control-goes p c led.body)
+    (subst (λ (y : ℕ). LeadsOver w.tree (exits_of w.nodes) p.dst led.forth.first led.forth.links y) comes led.forth.way) ends_there
+    (subst (λ (l : Lone). Comes l end (loses_answer w)) (sym (request-comes (has_asked w) z p c led.back.first led.body led.request route)) back)) in
     record {
       journal = forth.journal;
       ends = record {

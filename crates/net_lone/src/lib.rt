@@ -5,4 +5,7 @@
 
 mod law;
 
-pub use law::{control_requests_come_back, messages_are_carried, one_message_goes_alone, one_message_has_one_end};
+pub use law::{
+    control_requests_come_back, messages_are_carried, one_message_goes_alone,
+    one_message_has_one_end,
+};

@@ -34,13 +34,13 @@ follows tree is fits a z d e ds lt way =
     let may = ways_follow tree a z d e ds way in
     let joins = links_join_ports tree is e may.there in
     let port : start_port links e < port_count tree.nodes (end_of links d) =
-        subst (λ x. start_port links e < port_count tree.nodes x) may.starts joins.2 in
+    subst (λ x. start_port links e < port_count tree.nodes x) may.starts joins.2 in
     let arrival : end_port links d < port_count tree.nodes (end_of links d) = (links_join_ports tree is d lt).3 in
     let link : link_at links (end_of links d) (start_port links e) ≡ Some e =
-        ap (λ x. link_at links x (start_port links e)) (sym may.starts) ∙ ports_name_links tree is e may.there in
+    ap (λ x. link_at links x (start_port links e)) (sym may.starts) ∙ ports_name_links tree is e may.there in
     let most : port_count tree.nodes (end_of links d) ≤ 32 = few-ports tree.nodes (end_of links d) fits.nodes in
     let other : start_port links e ≢ end_port links d = λ same. may.onward
-        (same-link e (back_of d) (sym link ∙ ap (λ p. link_at links (end_of links d) p) same ∙ leads-back tree is d lt)) in
+    (same-link e (back_of d) (sym link ∙ ap (λ p. link_at links (end_of links d) p) same ∙ leads-back tree is d lt)) in
     record {
       there = may.there;
       switch = true_from_ne_false (is_switch tree (end_of links d)) (λ ends. other
@@ -62,7 +62,7 @@ ways-walk tree x z d ds is fits host way =
     let lt : d < 2 * length tree.links = way.0.0 in
     let starts : start_of tree.links d ≡ x = way.0.1 in
     let port : start_port tree.links d ≡ 0 =
-        one-port tree x (start_port tree.links d) (host-ends tree x host) (subst (λ y. start_port tree.links d < port_count tree.nodes y) starts (links_join_ports tree is d lt).2) in
+    one-port tree x (start_port tree.links d) (host-ends tree x host) (subst (λ y. start_port tree.links d < port_count tree.nodes y) starts (links_join_ports tree is d lt).2) in
     record {
       first = (λ i. link_at tree.links (sym starts i) (sym port i)) ∙ ports_name_links tree is d lt;
       goes = goes-along tree is fits x z d ds lt way;

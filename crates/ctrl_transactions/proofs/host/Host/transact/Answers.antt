@@ -10,8 +10,8 @@ talk-requires-clause-can g c =
     let p = c.args.net.now.present in
     subst (λ (packet : Packet). CanAskNow p c.in-Some.node packet) (sym c.request-packet.ensures)
     (may-ask-as p some.0 (record { epid = c.self.inside.epid; seq = c.self.inside.seq }) c.args.self.now c.args.dst c.args.request.now c.in-Some.node c.self.view_is some.1
-        c.requires.settled c.self.invariant c.requires.fits c.requires.asks
-        (host-node p.tree c.self.inside.epid c.in-Some.node c.in-Some.field-0-1 (sym c.host.ensures ∙ c.in-Some.is)) (c.reaches.ensures.0 c.if-not-reaches.false))
+    c.requires.settled c.self.invariant c.requires.fits c.requires.asks
+    (host-node p.tree c.self.inside.epid c.in-Some.node c.in-Some.field-0-1 (sym c.host.ensures ∙ c.in-Some.is)) (c.reaches.ensures.0 c.if-not-reaches.false))
 
 pub returns-in-Some-acknowledged : goal.returns-in-Some-acknowledged
 returns-in-Some-acknowledged g c =
