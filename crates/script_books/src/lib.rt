@@ -6,7 +6,6 @@
 mod book;
 mod commands;
 mod counts;
-mod found;
 mod made;
 mod refusal;
 
@@ -15,10 +14,10 @@ pub use book::{
 };
 pub use commands::{acts_of, is_peaked, is_traced, kind_of};
 pub use counts::{refused, undrained};
-pub use found::{Found, FoundNode, FoundNodes, LostPort, LostPorts};
 pub use made::{end_at, kind_at};
 pub use refusal::Refusal;
 pub use run_books::{Lines, RunBook, TakenLists};
+pub use walk_books::{Found, FoundNode, FoundNodes, LostPort, LostPorts};
 
 #[cfg(test)]
 mod tests;

@@ -13,7 +13,7 @@ use Rattle.rf_script_types.specs.declared.act.Act.{Act}
 use Rattle.rf_script_types.specs.declared.act.Act.TheVariants as acts
 use Rattle.script_books.specs.declared.book.ActAnswer.{ActAnswer}
 use Rattle.script_books.specs.declared.book.ActAnswer.TheVariants as act_answers
-use Rattle.script_books.specs.declared.found.FoundNode.{FoundNode}
+use Rattle.walk_books.specs.declared.found.FoundNode.{FoundNode}
 use Rattle.script_lines.specs.Names.{cmd_op_text, ctrl_status_text, epid_text, kind_text, node_kind_text, sample_text, some_text}
 use Rattle.script_lines.specs.Page.{◌&◌}
 

@@ -18,7 +18,7 @@ use Rattle.run_plans.specs.declared.layout.Layout.{Layout}
 use Rattle.run_plans.specs.declared.layout.PlacedBlock.{PlacedBlock}
 use Rattle.script_books.specs.declared.book.Book.{Book}
 use Rattle.script_books.specs.declared.book.Book.TheVariants as book
-use Rattle.script_books.specs.declared.found.Found.{Found}
+use Rattle.walk_books.specs.declared.found.Found.{Found}
 use Rattle.stream_endpoint.specs.declared.flow.Flow.{Flow}
 use Rattle.stream_endpoint.specs.declared.flow.Policy.{Policy}
 
