@@ -8,6 +8,7 @@ use Rattle.net_lawful.proofs.Nodes.{can-perform}
 use Rattle.net_lawful.proofs.Peaks.{peak-follows}
 use Rattle.net_lawful.proofs.Planned as plans
 use Rattle.net_lawful.proofs.Staying.{all-lawful, lawful-stays}
+pub use Rattle.net_lawful.proofs.Stilling.{empty-at}
 use Rattle.net_lawful.proofs.Unseen.{stilled-unseen}
 
 pub built_is_lawful : law.BuiltIsLawful

@@ -1,86 +1,28 @@
 -- Once a management packet is asked no stream does anything, and only messages move.
-use Rattle.std.proofs.Common.{◌≡◌, ℕ, ◌≤◌, ◌<◌, ◌⊎◌, inl, inr, Bool, true, false, List, [], ◌∷◌, length, map, refl, sym, ◌∙◌, ap, subst, get_or, zero, suc, if◌then◌else◌}
-use Rattle.std.specs.Prelude.{Some, nat_lt, not, ◌==◌, ◌&&◌, ◌||◌}
+use Rattle.std.proofs.Common.{◌≡◌, ℕ, ◌≤◌, ◌<◌, ◌⊎◌, inl, inr, Bool, true, false, List, [], ◌∷◌, length, map, refl, sym, ◌∙◌, ap, subst, get_or, zero, suc}
+use Rattle.std.specs.Prelude.{Some, nat_lt, not, ◌&&◌}
 use Rattle.std.specs.List.{AllByRecursion, list_all}
 use Rattle.std.specs.Option.{option_map_or}
 use Rattle.std.proofs.lemmas.Bool.{cases_lt, false≢true, lt-ltb}
 use Rattle.std.proofs.lemmas.List.{get_or_past}
-use Rattle.chdr_packets.specs.declared.packet.Body.{Body}
-use Rattle.chdr_packets.specs.declared.packet.Body.TheVariants as body
-use Rattle.chdr_words.specs.declared.command.CmdOp.{CmdOp}
-use Rattle.chdr_words.specs.declared.command.CmdOp.TheVariants.{Init, Ping, Resync, Other}
 use Rattle.chdr_words.specs.declared.epid.Epid.{Epid}
-use Rattle.net_topology.specs.declared.plan.Plan.{Plan}
-use Rattle.stream_endpoint.specs.Counts.{is_none}
 use Rattle.net_machine.specs.declared.event.Event.TheVariants.{Enter, Seen, Feed, Report, Command}
-use Rattle.net_machine.specs.declared.plan.RunPlan.{RunPlan}
 use Rattle.net_machine.specs.declared.plan.StreamPlan.{StreamPlan}
-use Rattle.net_machine.specs.Blocks.{drained_by, is_clear, is_closed, is_finished}
-use Rattle.net_machine.specs.Conditions.{can_feed, can_order, can_see, can_send, ends_at_rx, has_place_from, is_of, is_opening, is_resyncing, is_stuck, may, none_under_way}
-use Rattle.net_machine.specs.Front.{Front, Queued, StreamFront, front, front_at, queued, queued_at, stream_front}
+use Rattle.net_machine.specs.Conditions.{can_feed, can_order, can_see, can_send, ends_at_rx, has_place_from, is_of, may, none_under_way}
+use Rattle.net_machine.specs.Front.{Queued, StreamFront, front, front_at, queued, queued_at, stream_front}
 use Rattle.net_machine.specs.Moves.{AreEmpty, IsAtRest}
-use Rattle.net_machine.specs.Plans.{block_at, first_link, is_tx, plan_at, producer_of, stream_to}
+use Rattle.net_machine.specs.Plans.{block_at, first_link, plan_at}
 use Rattle.net_machine.specs.Queues.{back_vc, forward_vc, queue_of}
-use Rattle.net_machine.specs.State.{Entry, Node, State, idle, queue_at}
+use Rattle.net_machine.specs.State.{Entry, State, idle, queue_at}
 use Rattle.net_machine.proofs.Laws.{fronts}
-use Rattle.stream_endpoint.specs.Sender.{is_running}
-use Rattle.net_ways.specs.Standing.{IsMessage}
 use Rattle.net_ways.specs.Ways.{HasQueues, IsLedTo}
-use Rattle.net_ways.proofs.Laws.{ways_begin}
+use Rattle.net_ways.proofs.Laws.{front_of, message-of, order-same, ways_begin}
 use Rattle.net_flows.specs.Flows.{IsSteady}
 use Rattle.net_lawful.specs.Messages.{EachEntry}
 use Rattle.net_lawful.specs.Walking.{AreLed, AreStilled, IsNoStreams}
 use Rattle.net_lawful.proofs.Messages.{due-past, order-past}
 
--- ---- fronts with the same plan and streams
-
--- a front of these
-abbrev pub front_of : Plan → RunPlan → List (List Queued) → List Node → List StreamFront → Front
-front_of tree plan queues nodes streams = record { tree = tree; plan = plan; queues = queues; nodes = nodes; streams = streams }
-
--- whether a producer is finished, its streams and the plan tell
-finished-same : (tree : Plan) (plan : RunPlan) (streams : List StreamFront) (qs rs : List (List Queued)) (ns ms : List Node) (k b : ℕ) →
-    is_finished k (front_of tree plan qs ns streams) b ≡ is_finished k (front_of tree plan rs ms streams) b
-finished-same tree plan streams qs rs ns ms zero b = refl
-finished-same tree plan streams qs rs ns ms (suc k) b =
-    let same = finished-same tree plan streams qs rs ns ms k in
-    λ i. if is_tx (block_at plan b).kind
-    then list_all (is_clear (front_of tree plan rs ms streams)) (block_at plan b).outs
-    else list_all (λ (epid : Epid). option_map_or
-    (λ s. drained_by (option_map_or (λ c. same c i) (producer_of plan s) false) (front_at (front_of tree plan rs ms streams) s))
-    (stream_to plan epid) false) (block_at plan b).ins
-
-closed-same : (tree : Plan) (plan : RunPlan) (streams : List StreamFront) (qs rs : List (List Queued)) (ns ms : List Node) (s : ℕ) →
-    is_closed (front_of tree plan qs ns streams) s ≡ is_closed (front_of tree plan rs ms streams) s
-closed-same tree plan streams qs rs ns ms s =
-    let same = finished-same tree plan streams qs rs ns ms (length plan.blocks) in
-    λ i. option_map_or (λ b. same b i) (producer_of plan s) false
-
--- where no queue has an entry of stream s, its commands depend on its plan and streams alone
-order-same : (tree : Plan) (plan : RunPlan) (streams : List StreamFront) (qs rs : List (List Queued)) (ns ms : List Node) (s : ℕ) (op : CmdOp) →
-    none_under_way qs (plan_at plan s) ≡ none_under_way rs (plan_at plan s) →
-    can_order (front_of tree plan qs ns streams) s op ≡ can_order (front_of tree plan rs ms streams) s op
-order-same tree plan streams qs rs ns ms s Init under =
-    let st = front_at (front_of tree plan rs ms streams) s in
-    λ i. is_opening st.state && (not st.commanded || (under i && (not st.due && (st.taken == st.given))))
-order-same tree plan streams qs rs ns ms s Ping under =
-    let st = front_at (front_of tree plan rs ms streams) s in
-    let closed = closed-same tree plan streams qs rs ns ms s in
-    λ i. is_running st.state && ((under i && (not st.due && (st.taken == st.given)))
-    && (not (is_none st.outstanding) && is_stuck (plan_at plan s).flow st (closed i) st.ready))
-order-same tree plan streams qs rs ns ms s Resync under =
-    let st = front_at (front_of tree plan rs ms streams) s in
-    λ i. is_resyncing st.state && (not st.commanded || (under i && (not st.due && (st.taken == st.given))))
-order-same tree plan streams qs rs ns ms s (Other code) under = refl
-
 -- ---- messages are of no stream
-
-message-of : (plan : StreamPlan) (dst : Epid) (b : Body) → IsMessage b → is_of plan dst b ≡ false
-message-of plan dst (body.Samples time payload) is = absurd is
-message-of plan dst (body.Command c) is = absurd is
-message-of plan dst (body.Status status) is = absurd is
-message-of plan dst (body.Control control) is = refl
-message-of plan dst (body.Management m) is = refl
 
 none-in : (plan : StreamPlan) (es : List Entry) → AllByRecursion (λ (e : Entry). IsNoStreams e.tag e.packet) es →
     list_all (λ (e : Queued). not (is_of plan e.packet.dst e.packet.body)) (map queued es) ≡ true
@@ -118,7 +60,7 @@ second-true : (a b : Bool) → (a && b) ≡ false → b ≡ true → a ≡ false
 second-true true b none yes_it = absurd (false≢true (sym none ∙ yes_it))
 second-true false b none yes_it = refl
 
-empty-at : (w : State) → AreEmpty w → (q : ℕ) → queue_at w.queues q ≡ []
+pub empty-at : (w : State) → AreEmpty w → (q : ℕ) → queue_at w.queues q ≡ []
 empty-at w empty q = by_order (cases_lt q (length w.queues))
   where
     by_order : (q < length w.queues) ⊎ (length w.queues ≤ q) → queue_at w.queues q ≡ []

@@ -1,9 +1,9 @@
 -- A network at rest has no messages, and a whole run leaves it at rest.
-use Rattle.std.proofs.Common.{◌≡◌, ℕ, ◌≤◌, ◌<◌, ◌⊎◌, inl, inr, true, false, List, [], ◌∷◌, length, map, refl, sym, ◌∙◌, ap, subst}
+use Rattle.std.proofs.Common.{◌≡◌, ℕ, inl, inr, true, false, List, [], ◌∷◌, length, map, refl, sym, ◌∙◌, ap, subst}
 use Rattle.std.specs.Prelude.{Option, Some, None, nat_lt}
 use Rattle.std.specs.List.{All, AllByRecursion}
-use Rattle.std.proofs.lemmas.Bool.{and_from, both_ways, cases_lt, lt-ltb}
-use Rattle.std.proofs.lemmas.List.{get_or_default, get_or_past}
+use Rattle.std.proofs.lemmas.Bool.{and_from, both_ways, lt-ltb}
+use Rattle.std.proofs.lemmas.List.{get_or_default}
 use Rattle.chdr_packets.specs.declared.packet.Packet.{Packet}
 use Rattle.net_topology.specs.Links.{link_at}
 use Rattle.net_machine.specs.declared.event.Event.TheVariants.{Ask, Hop, Lose, Reply}
@@ -19,19 +19,12 @@ use Rattle.net_machine.specs.State.{Entry, Node, State, node_at, queue_at}
 use Rattle.net_machine.proofs.Laws.{fronts}
 use Rattle.net_ways.specs.Ways.{HasQueues}
 use Rattle.net_ways.proofs.Laws.{channels_go_on}
-use Rattle.net_lawful.proofs.Laws.{all_are_lawful, begun_is_lawful, lawful_stays}
+use Rattle.net_lawful.proofs.Laws.{all_are_lawful, begun_is_lawful, empty-at, lawful_stays}
 use Rattle.net_rest.specs.Laws.{BegunHasNoMessages, NoMessagesComeInJournals, RestHasNoMessages, RunsRest}
 use Rattle.net_rest.specs.Messages.{NoneLeaves, IsOfStream}
 use Rattle.net_rest.proofs.Keeping.{none-come}
 
 -- ---- at rest
-
-empty-at : (w : State) → AreEmpty w → (q : ℕ) → queue_at w.queues q ≡ []
-empty-at w empty q = by_order (cases_lt q (length w.queues))
-  where
-    by_order : (q < length w.queues) ⊎ (length w.queues ≤ q) → queue_at w.queues q ≡ []
-    by_order (inl lt) = empty q [] lt
-    by_order (inr past) = get_or_past w.queues q [] past
 
 -- where all queues are empty there is room
 has-room : (w : State) → HasQueues w → AreEmpty w → (q : ℕ) → has_place (front w) q ≡ true

@@ -13,6 +13,7 @@ use Rattle.net_ways.proofs.Clearing.{channels-go_on}
 use Rattle.net_ways.proofs.Coming.{commands-come, samples-come, statuses-come}
 use Rattle.net_ways.proofs.Entering.{enters-ahead, enters-back, loses-ahead, loses-back}
 use Rattle.net_ways.proofs.Following.{passing-follows}
+pub use Rattle.net_ways.proofs.Fronts.{front_of, message-of, order-same}
 use Rattle.net_ways.proofs.Gathering.{gather-blind, gather-comes, gather-joins, gather-loses, gather-moves}
 use Rattle.net_ways.proofs.Leading.{over-queues, ways-begin}
 use Rattle.net_ways.proofs.Moving.{hops-ahead, hops-back, hops-by_table}

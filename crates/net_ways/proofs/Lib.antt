@@ -10,4 +10,5 @@ mod Placing
 mod Staying
 mod Waiting
 mod Beginning
+mod Fronts
 pub mod Laws
