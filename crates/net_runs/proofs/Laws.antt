@@ -1,7 +1,9 @@
 -- The laws of whole runs, with their proofs, for the proofs of other crates.
 use Rattle.net_runs.specs.Runs.{BeginsWithoutLosses, LawfulWeightFalls, LegalJournalsEnd, OnlyLosesCount, WholeRunsEnd, WholeRunsEndPlain}
+use Rattle.net_runs.specs.Lossless.{LosslessGoesOn, NothingNamedNothingLost, ResynchronisingRunsDrain}
 use Rattle.net_runs.proofs.Lasting.{begun-lost, event-lost}
-use Rattle.net_runs.proofs.Runs.{lawful-falls, legal-end, whole-end, whole-end_plain}
+use Rattle.net_runs.proofs.Lossless.{goes-on, nothing-lost}
+use Rattle.net_runs.proofs.Runs.{lawful-falls, legal-end, resynchronising-drain, whole-end, whole-end_plain}
 
 pub lawful_weight_falls : LawfulWeightFalls
 lawful_weight_falls = lawful-falls
@@ -20,3 +22,12 @@ whole_runs_end = whole-end
 
 pub whole_runs_end_plain : WholeRunsEndPlain
 whole_runs_end_plain = whole-end_plain
+
+pub lossless_goes_on : LosslessGoesOn
+lossless_goes_on = goes-on
+
+pub nothing_named_nothing_lost : NothingNamedNothingLost
+nothing_named_nothing_lost = nothing-lost
+
+pub resynchronising_runs_drain : ResynchronisingRunsDrain
+resynchronising_runs_drain = resynchronising-drain

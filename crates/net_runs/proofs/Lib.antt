@@ -1,3 +1,4 @@
 pub mod Lasting
+pub mod Lossless
 pub mod Runs
 pub mod Laws

@@ -1,4 +1,5 @@
 //! Each law is a function that does nothing and promises it.
+ghost use Rattle.net_runs.specs.Lossless.{LosslessGoesOn, NothingNamedNothingLost, ResynchronisingRunsDrain};
 ghost use Rattle.net_runs.specs.Runs.{BeginsWithoutLosses, LawfulWeightFalls, LegalJournalsEnd, OnlyLosesCount, WholeRunsEnd, WholeRunsEndPlain};
 
 /// Each event lowers the weight of a lawful network, so a legal journal has at most as many events as its first state
@@ -24,4 +25,15 @@ pub fn whole_runs_end_for_a_cause()
 /// peaks, and each line.
 pub fn whole_runs_without_losses_end_plain()
     ensures { WholeRunsEndPlain }
+{}
+
+/// In a run whose plan names no packet to lose nothing is lost.
+pub fn nothing_is_lost_that_is_not_named()
+    ensures events { LosslessGoesOn }
+    ensures runs { NothingNamedNothingLost }
+{}
+
+/// If each stream of a plan resynchronises by itself, a whole run leaves all of them drained, whatever was lost.
+pub fn resynchronising_runs_drain()
+    ensures { ResynchronisingRunsDrain }
 {}
