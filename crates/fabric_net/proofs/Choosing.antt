@@ -70,7 +70,7 @@ same-test p supplied (event.Ask x) never = refl
 
 -- ---- no candidate is a taking
 
-abbrev NoTakings : List Event → Type 0
+abbrev pub NoTakings : List Event → Type 0
 NoTakings events = AllByRecursion (λ (e : Event). IsTaking e → ⊥) events
 
 none-joined : (xs ys : List Event) → NoTakings xs → NoTakings ys → NoTakings (xs ++ ys)
@@ -85,7 +85,7 @@ none-flat : (make : ℕ → List Event) → ((k : ℕ) → NoTakings (make k)) �
 none-flat make never [] = tt
 none-flat make never (n ∷ ns) = none-joined (make n) (flat_map make ns) (never n) (none-flat make never ns)
 
-no-takings : (f : Front) → NoTakings (candidates f)
+pub no-takings : (f : Front) → NoTakings (candidates f)
 no-takings f =
     none-joined _ _ (none-mapped event.Enter (λ k t. t) (range_with_len 0 (length f.streams)))
     (none-joined _ _ (none-flat commands_of (λ k. (λ t. t, (λ t. t, (λ t. t, tt)))) (range_with_len 0 (length f.streams)))

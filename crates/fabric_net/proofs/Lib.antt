@@ -4,3 +4,4 @@ mod Telling
 mod Resting
 mod Leading
 mod Stepping
+pub mod Laws

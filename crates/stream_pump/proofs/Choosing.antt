@@ -1,41 +1,14 @@
 -- What a seed chooses is no taking.
-use Rattle.std.proofs.Common.{◌≡◌, ℕ, zero, suc, Bool, true, false, List, [], ◌∷◌, ◌++◌, length, map, subst}
+use Rattle.std.proofs.Common.{◌≡◌, ℕ, zero, suc, Bool, true, false, List, [], ◌∷◌, length, subst}
 use Rattle.std.specs.Prelude.{◌==◌, Some, filter, if◌then◌else◌, slice_get}
-use Rattle.std.specs.List.{AllByRecursion, flat_map, range_with_len}
 use Rattle.net_machine.specs.declared.event.Event.{Event}
-use Rattle.net_machine.specs.declared.event.Event.TheVariants as event
-use Rattle.net_machine.specs.Choice.{candidates, chosen, commands_of, enabled_list, feeds_of}
+use Rattle.net_machine.specs.Choice.{candidates, chosen, enabled_list}
 use Rattle.net_machine.specs.Conditions.{enabled}
-use Rattle.net_machine.specs.Front.{Front, front}
+use Rattle.net_machine.specs.Front.{front}
 use Rattle.net_machine.specs.Laws.{IsTaking}
 use Rattle.net_machine.specs.Seeds.{next_seed, place_in}
 use Rattle.net_machine.specs.State.{State}
-
-abbrev NoTakings : List Event → Type 0
-NoTakings events = AllByRecursion (λ (e : Event). IsTaking e → ⊥) events
-
-none-joined : (xs ys : List Event) → NoTakings xs → NoTakings ys → NoTakings (xs ++ ys)
-none-joined [] ys none others = others
-none-joined (x ∷ xs) ys none others = (none.0, none-joined xs ys none.1 others)
-
-none-mapped : (make : ℕ → Event) → ((k : ℕ) → IsTaking (make k) → ⊥) → (ns : List ℕ) → NoTakings (map make ns)
-none-mapped make never [] = tt
-none-mapped make never (n ∷ ns) = (never n, none-mapped make never ns)
-
-none-flat : (make : ℕ → List Event) → ((k : ℕ) → NoTakings (make k)) → (ns : List ℕ) → NoTakings (flat_map make ns)
-none-flat make never [] = tt
-none-flat make never (n ∷ ns) = none-joined (make n) (flat_map make ns) (never n) (none-flat make never ns)
-
-no-takings : (f : Front) → NoTakings (candidates f)
-no-takings f =
-    none-joined _ _ (none-mapped event.Enter (λ k t. t) (range_with_len 0 (length f.streams)))
-    (none-joined _ _ (none-flat commands_of (λ k. (λ t. t, (λ t. t, (λ t. t, tt)))) (range_with_len 0 (length f.streams)))
-    (none-joined _ _ (none-mapped event.Report (λ k t. t) (range_with_len 0 (length f.streams)))
-    (none-joined _ _ (none-flat feeds_of (λ k. (λ t. t, (λ t. t, tt))) (range_with_len 0 (length f.plan.blocks)))
-    (none-joined _ _ (none-mapped event.Reply (λ k t. t) (range_with_len 0 (length f.nodes)))
-    (none-joined _ _ (none-mapped event.Ask (λ k t. t) (range_with_len 0 (length f.nodes)))
-    (none-joined _ _ (none-mapped event.Lose (λ k t. t) (range_with_len 0 (length f.queues)))
-    (none-mapped event.Hop (λ k t. t) (range_with_len 0 (length f.queues)))))))))
+use Rattle.fabric_net.proofs.Laws.{NoTakings, no-takings}
 
 none-if : (b : Bool) (x : Event) (xs : List Event) → (IsTaking x → ⊥) → NoTakings xs → NoTakings (if b then x ∷ xs else xs)
 none-if true x xs never none = (never, none)

@@ -16,10 +16,10 @@ use Rattle.net_machine.specs.State.{State, stream_at}
 use Rattle.net_machine.specs.Tallies.{end_of, line_at, tally_over, taken_by}
 use Rattle.net_ends.specs.Complete.{plain_at, plain_tally}
 use Rattle.net_runs.specs.Runs.{IsPlainRun, IsRunOf}
-use Rattle.net_runs.proofs.Laws.{whole_runs_end_plain}
+use Rattle.net_runs.proofs.Laws.{nothing_named_nothing_lost, resynchronising_runs_drain, whole_runs_end_plain}
 use Rattle.run_books.specs.declared.book.RunBook.{RunBook}
 use Rattle.run_books.specs.Books.{IsBookOf, blocks_of}
-use Rattle.stream_pump.specs.PlainBooks.{BooksWithoutLossesArePlain, without_peaks}
+use Rattle.stream_pump.specs.PlainBooks.{BooksLoseOnlyWhatIsNamed, BooksWithoutLossesArePlain, ResynchronisingBooksDrain, without_peaks}
 use Rattle.stream_pump.specs.Running.{CanRun}
 use Rattle.stream_pump.specs.Telling.{has_line}
 use Rattle.std.proofs.lemmas.List.Quantifiers.{position-Some}
@@ -79,3 +79,13 @@ plain-book plan w book can is lost = record {
     taken b =
         ap (λ (r : RunPlan). option_map_or (λ s. taken_of (stream_at (after_journal (begun plan w) book.journal) s)) (stream_into r (block_at r b) 0) []) same
         ∙ plain-taken plan (after_journal (begun plan w) book.journal) same many run (stream_into plan (block_at plan b) 0) (into-there plan b)
+
+pub named-alone : BooksLoseOnlyWhatIsNamed
+named-alone plan w book can is none = nothing_named_nothing_lost plan w book.journal can.rest none is.whole.legal
+
+pub resynchronising : ResynchronisingBooksDrain
+resynchronising plan w book can is autos =
+    is.tells.ends
+    ∙ same-row (end_of (after_journal (begun plan w) book.journal)) (λ s. Drained) 0 (length plan.streams)
+    (λ s low lt. resynchronising_runs_drain plan w book.journal (after_journal (begun plan w) book.journal) (run-of plan w book can is) autos s
+    (let many = streams-after plan w book.journal in omega (arith, lt, many)))

@@ -1,5 +1,5 @@
 -- What the plan alone tells of a run in which nothing was lost.
-use Rattle.std.specs.Prelude.{◌≡◌, ℕ, length, map}
+use Rattle.std.specs.Prelude.{◌≡◌, ℕ, [], length, map}
 use Rattle.std.specs.List.{AllByRecursion}
 use Rattle.block_library.specs.Lines.{line_of}
 use Rattle.stream_endpoint.specs.Counts.{none}
@@ -11,6 +11,7 @@ use Rattle.net_machine.specs.Plain.{plain}
 use Rattle.net_machine.specs.Plans.{block_at, is_rx}
 use Rattle.net_machine.specs.State.{State}
 use Rattle.net_ends.specs.Complete.{plain_at, plain_tally}
+use Rattle.net_runs.specs.Lossless.{AllResynchronise}
 use Rattle.net_runs.specs.Runs.{LosesNothing}
 use Rattle.run_books.specs.declared.book.RunBook.{RunBook}
 use Rattle.run_books.specs.Books.{IsBookOf, IsChosenBook, blocks_of, each_stream}
@@ -37,3 +38,13 @@ ChosenBooksAreBooks = (seed : ℕ) (plan : RunPlan) (w : State) (book : RunBook)
 abbrev pub BooksWithoutLossesArePlain : Type 0
 BooksWithoutLossesArePlain = (plan : RunPlan) (w : State) (book : RunBook) → CanRun plan w → IsBookOf (begun plan w) book
     → AllByRecursion LosesNothing book.journal → IsPlainBook plan book
+
+-- Where the plan names no packet to lose, nothing is lost.
+abbrev pub BooksLoseOnlyWhatIsNamed : Type 0
+BooksLoseOnlyWhatIsNamed = (plan : RunPlan) (w : State) (book : RunBook) → CanRun plan w → IsBookOf (begun plan w) book
+    → plan.faults ≡ [] → AllByRecursion LosesNothing book.journal
+
+-- Where each stream resynchronises by itself, the book tells of each that it is drained, whatever was lost.
+abbrev pub ResynchronisingBooksDrain : Type 0
+ResynchronisingBooksDrain = (plan : RunPlan) (w : State) (book : RunBook) → CanRun plan w → IsBookOf (begun plan w) book
+    → AllResynchronise plan → book.ends ≡ each_stream (λ s. Drained) plan

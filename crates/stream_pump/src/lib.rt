@@ -12,7 +12,9 @@ mod supply;
 mod tells;
 
 pub use block_library::Line;
-pub use law::{books_without_losses_are_plain, chosen_books_are_books};
+pub use law::{
+    books_tell_of_drained_streams, books_without_losses_are_plain, chosen_books_are_books,
+};
 pub use net_machine::{StreamEnd, Tally};
 pub use run::run_one;
 pub use run_books::{Lines, RunBook, TakenLists};
