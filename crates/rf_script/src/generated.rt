@@ -1,5 +1,6 @@
 //! The generated script: two chains of four blocks over one crossbar.
 ghost use Rattle.std.specs.Prelude.{◌≡◌, ◌≤◌, IfOk, [], ◌∷◌};
+ghost use Rattle.rf_script_types.specs.Fits.{FitsScript};
 ghost use Rattle.rf_script.specs.Generated.{one_end, tx, rx, through, join, setting, host, endpoint, link, net, run, generated};
 
 use block_library::BlockKind;
@@ -171,10 +172,12 @@ fn run(alloc: Global) -> ScriptCommand
 /// and an rx.
 ///
 /// docs/script-language.md has it under "The generated script".
+#[tactic(auto, using(crate::proofs::Fitting::generated_fits))]
 pub fn gen_script(alloc: Global, n: u32) -> Result<Script, Memory>
     requires some { 1 ≤ n }
     requires few { n ≤ 16384 }
-    ensures { IfOk result (λ script. script ≡ generated n) }
+    ensures generated { IfOk result (λ script. script ≡ generated n) }
+    ensures fits { IfOk result FitsScript }
 {
     let commands = [
         net(alloc)?,
