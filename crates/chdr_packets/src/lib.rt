@@ -19,6 +19,3 @@ pub use law::{
     what_follows_changes_nothing, what_is_read_is_spelled,
 };
 pub use packet::{Body, Front, Packet, PacketList};
-
-#[cfg(test)]
-mod tests;

@@ -18,6 +18,3 @@ pub use law::{
 };
 pub use placed::{FinishFault, Passed, Placed, StreamFault};
 pub use window::Window;
-
-#[cfg(test)]
-mod tests;

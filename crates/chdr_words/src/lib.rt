@@ -36,6 +36,3 @@ pub use status::{Status, StatusCode, decode_status, encode_status, is_plain_stat
 pub use wire::wire_size;
 pub use word::Word;
 pub use words15::Words15;
-
-#[cfg(test)]
-mod tests;

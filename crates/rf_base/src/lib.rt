@@ -11,6 +11,3 @@ pub use copyable::Copyable;
 pub use items::Items;
 pub use lists::{Bytes, Bytes32, CountList, WordList};
 pub use memory::Memory;
-
-#[cfg(test)]
-mod tests;

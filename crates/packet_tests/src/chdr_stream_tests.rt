@@ -1,7 +1,7 @@
 ghost use Rattle.std.specs.Prelude.{◌≡◌, ◌+◌, length};
 
-use crate::{Decoder, FinishFault, Passed, StreamFault};
 use chdr_packets::{Body, PacketFault};
+use chdr_stream::{Decoder, FinishFault, Passed, StreamFault};
 use chdr_words::MsgFault;
 use std::test::Fail;
 

@@ -1,4 +1,4 @@
-use crate::{Copyable, Items, Memory};
+use rf_base::{Copyable, Items, Memory};
 use std::test::Fail;
 
 #[test]

@@ -1,4 +1,4 @@
-use crate::{Body, Packet, PacketFault, decode, encode, fits};
+use chdr_packets::{Body, Packet, PacketFault, decode, encode, fits};
 use chdr_words::{
     CmdOp, Command, Control, CtrlOp, CtrlStatus, Epid, Management, MgmtOp, MsgFault, Status,
     StatusCode, Words15,

@@ -1,4 +1,4 @@
-use crate::{
+use chdr_words::{
     Cfg, CmdOp, Command, Control, CtrlOp, CtrlStatus, Epid, Management, MgmtOp, NodeInfo, NodeKind,
     Operation, Status, StatusCode, Words15, decode_command, decode_control, decode_management,
     decode_status, encode_command, encode_control, encode_management, encode_status, wire_size,
