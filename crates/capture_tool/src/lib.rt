@@ -14,6 +14,3 @@ pub use check::check_capture;
 pub use pcap::{PcapSeen, Totals, show_pcap};
 pub use seen::{Counts, Fault, Seen, Why};
 pub use show::show_capture;
-
-#[cfg(test)]
-mod tests;

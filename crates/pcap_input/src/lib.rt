@@ -15,6 +15,3 @@ pub use header::Order;
 pub use item::{PcapFault, PcapItem, PcapReason};
 pub use law::{a_file_is_its_records, a_reader_shows_what_follows, any_cut_gives_the_same};
 pub use reader::PcapReader;
-
-#[cfg(test)]
-mod tests;

@@ -26,6 +26,3 @@ pub use source::Source;
 pub use std_ends::{StdSink, StdSource};
 pub use sure::{SureSink, SureSource};
 pub use text::Text;
-
-#[cfg(test)]
-mod tests;

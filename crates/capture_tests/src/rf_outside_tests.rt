@@ -1,8 +1,8 @@
-use crate::{
+use rf_base::{Bytes, Items, Memory};
+use rf_outside::{
     CountList, Failed, MemSink, MemSource, ReadAllFault, Sink, Source, StdSink, StdSource, Stop,
     SureSink, SureSource, Text, read_all, write_all,
 };
-use rf_base::{Bytes, Items, Memory};
 use std::alloc::Global;
 use std::io::{Cursor, ErrorKind, Read, Write};
 use std::test::Fail;

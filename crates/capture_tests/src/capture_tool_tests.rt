@@ -1,4 +1,4 @@
-use crate::{Fault, Why, check_capture, show_capture, show_pcap};
+use capture_tool::{Fault, Why, check_capture, show_capture, show_pcap};
 use rf_base::{Bytes, CountList, Items, Memory};
 use rf_outside::{MemSink, MemSource, SureSink, SureSource, Text};
 use std::alloc::Global;

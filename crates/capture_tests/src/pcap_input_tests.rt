@@ -1,7 +1,7 @@
 ghost use Rattle.std.specs.Prelude.{◌≤◌, length};
 
-use crate::{PcapFault, PcapItem, PcapReader, PcapReason};
 use chdr_stream::FinishFault;
+use pcap_input::{PcapFault, PcapItem, PcapReader, PcapReason};
 use rf_base::{Bytes, Items, Memory};
 use std::alloc::Global;
 use std::test::Fail;
