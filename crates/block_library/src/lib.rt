@@ -17,6 +17,3 @@ pub use law::{
 };
 pub use line::Line;
 pub use plan::TxPlan;
-
-#[cfg(test)]
-mod tests;

@@ -20,6 +20,3 @@ pub use law::{
 };
 pub use operation::operate_on;
 pub use plain::PlainBank;
-
-#[cfg(test)]
-mod tests;

@@ -20,8 +20,3 @@ pub use law::{
 };
 pub use out_end::OutEnd;
 pub use state::{Arrived, Gap, Notice, OutState};
-
-#[cfg(test)]
-mod tests;
-#[cfg(test)]
-mod uses;

@@ -14,6 +14,3 @@ pub use law::{
     taken_begins_given, tests_tell_their_conditions, the_invariant_holds, what_is_kept_finds_room,
     what_was_made_is_sent_in_order,
 };
-
-#[cfg(test)]
-mod tests;

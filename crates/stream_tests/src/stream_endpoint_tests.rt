@@ -1,10 +1,10 @@
-use crate::OutState::{Opening, Resyncing, Running};
-use crate::{Arrived, Count, Fault, Faults, Flow, Gap, InEnd, OutEnd, OutState, Policy};
 use chdr_words::StatusCode::{Okay, SeqErr};
 use chdr_words::{CmdOp, Command, Epid, Status, StatusCode, Word};
 use rf_base::Copyable;
 use std::process::Abort;
 use std::test::Fail;
+use stream_endpoint::OutState::{Opening, Resyncing, Running};
+use stream_endpoint::{Arrived, Count, Fault, Faults, Flow, Gap, InEnd, OutEnd, OutState, Policy};
 
 /// 96 bytes and 4 packets, with a status after each packet of 24 bytes.
 const FLOW: Flow = Flow {

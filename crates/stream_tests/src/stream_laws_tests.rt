@@ -1,11 +1,11 @@
-use crate::{
+use std::test::Fail;
+use stream_laws::{
     a_loss_can_halt, a_loss_is_mended, commands_end, credit_is_never_passed, drained_gives_all,
     drained_stays, epochs_are_few, given_begins_sent, nothing_is_given_after_a_gap,
     only_a_loss_breaks, rest_is_an_end, rest_is_quiet, runs_join, spellings_tell,
     taken_begins_given, tests_tell_their_conditions, the_invariant_holds, what_is_kept_finds_room,
     what_was_made_is_sent_in_order,
 };
-use std::test::Fail;
 
 #[test]
 fn the_laws_hold_of_packets_of_a_type(_rt: HostRuntime) -> Result<(), Fail> {

@@ -7,8 +7,8 @@ ghost use Rattle.stream_endpoint.specs.InEnd.{info_by};
 ghost use Rattle.stream_endpoint.specs.Receiver.{expected};
 ghost use Rattle.stream_endpoint.specs.Sender.{fallen, next_number};
 
-use crate::{Count, Flow, InEnd, OutEnd, OutState, Policy};
 use chdr_words::{CmdOp, Epid, Status, StatusCode};
+use stream_endpoint::{Count, Flow, InEnd, OutEnd, OutState, Policy};
 
 /// Three packets of one wire size are sent over a list that loses the second. The receiver keeps the
 /// first, breaks at the third and reports the gap, and the sender falls.

@@ -1,7 +1,7 @@
 ghost use Rattle.std.specs.Prelude.{◌≡◌, ◌⊎◌};
 ghost use Rattle.block_library.specs.Blocks.{FitsKind};
 
-use crate::{Block, BlockKind, TxPlan};
+use block_library::{Block, BlockKind, TxPlan};
 use chdr_packets::{Body, Packet};
 use chdr_words::Epid;
 use rf_base::{Copyable, Items};

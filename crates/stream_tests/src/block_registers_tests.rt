@@ -2,7 +2,7 @@ ghost use Rattle.std.specs.Prelude.{◌≡◌};
 ghost use Rattle.chdr_words.specs.Control.{FitsControl, FitsCtrlOp};
 ghost use Rattle.block_registers.specs.Registers.{register, written_one, change};
 
-use crate::{Bank, Banks, PlainBank, RegisterBank, RegisterSlots, operate_fixed};
+use block_registers::{Bank, Banks, PlainBank, RegisterBank, RegisterSlots, operate_fixed};
 use chdr_words::{Control, CtrlOp, CtrlStatus, Epid, Words15};
 use rf_base::Items;
 use std::alloc::Global;
