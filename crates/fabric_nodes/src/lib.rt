@@ -13,6 +13,3 @@ pub use node::{NodePart, Site};
 pub use packets::Packets;
 pub use ports::{Ports, first_hop, walking};
 pub use wires::Wires;
-
-#[cfg(test)]
-mod tests;

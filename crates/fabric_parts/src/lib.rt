@@ -11,6 +11,3 @@ pub use block::BlockPart;
 pub use queue::{Entry, Queue};
 pub use source::{MOST_OFFERED, Source};
 pub use stream::StreamPart;
-
-#[cfg(test)]
-mod tests;

@@ -17,6 +17,3 @@ pub use law::{
 pub use plan::{BlockPlan, BlockPlans, RunPlan, StreamPlan, StreamPlans};
 pub use seed::Seed;
 pub use tally::{Ends, StreamEnd, Tallies, Tally};
-
-#[cfg(test)]
-mod tests;

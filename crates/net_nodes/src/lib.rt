@@ -19,6 +19,3 @@ pub use room::{Room, asked_answers, is_within_budget, reserve_answers};
 pub use site::{Done, Site};
 pub use switch::Switch;
 pub use table::{Place, Table};
-
-#[cfg(test)]
-mod tests;

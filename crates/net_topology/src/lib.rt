@@ -10,6 +10,3 @@ mod ups;
 pub use check::PlanFault;
 pub use plan::{LinkList, LinkNumbers, LinkPlan, NodeList, NodePlan, Plan};
 pub use topology::Topology;
-
-#[cfg(test)]
-mod tests;

@@ -4,5 +4,3 @@
 #![tactic(auto)]
 
 pub mod law;
-#[cfg(test)]
-mod tests;

@@ -3,8 +3,8 @@ ghost use Rattle.net_nodes.specs.Budget.{performed_packet};
 ghost use Rattle.net_nodes.specs.Perform.{performed};
 ghost use Rattle.net_nodes.specs.Switch.{crossbar_site};
 
-use crate::{Adapter, Crossbar, Done, EndNode, asked_answers, reserve_answers};
 use chdr_words::{Epid, EpidList, Hop, Management, MgmtOp};
+use net_nodes::{Adapter, Crossbar, Done, EndNode, asked_answers, reserve_answers};
 use rf_base::{Items, Memory};
 use std::alloc::Global;
 use std::test::Fail;

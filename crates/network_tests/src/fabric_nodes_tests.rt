@@ -1,6 +1,6 @@
-use crate::{NodePart, Packets, Wires};
 use chdr_packets::{Body, Packet};
 use chdr_words::{Bytes, Epid, EpidList};
+use fabric_nodes::{NodePart, Packets, Wires};
 use net_topology::{LinkPlan, NodePlan, Plan, PlanFault, Topology};
 use rf_base::{Items, Memory};
 use std::alloc::Global;

@@ -3,10 +3,10 @@ ghost use Rattle.block_library.specs.Blocks.{IsFeed};
 ghost use Rattle.block_library.specs.Producer.{FitsPlan};
 ghost use Rattle.fabric_parts.specs.Ready.{IsShort, ready_first};
 
-use crate::{BlockPart, Entry, MOST_OFFERED, Queue, StreamPart};
 use block_library::{BlockKind, TxPlan};
 use chdr_packets::{Body, Packet};
 use chdr_words::{CmdOp, Epid};
+use fabric_parts::{BlockPart, Entry, MOST_OFFERED, Queue, StreamPart};
 use net_machine::{StreamEnd, StreamPlan};
 use rf_base::{Items, Memory};
 use std::alloc::Global;

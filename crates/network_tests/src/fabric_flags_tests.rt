@@ -1,4 +1,4 @@
-use crate::Flags;
+use fabric_flags::Flags;
 use std::test::Fail;
 
 /// Flags 3, 64 and 130 of 200, in three words.

@@ -1,4 +1,4 @@
-use crate::law::what_is_picked_follows_the_queues;
+use net_ways::law::what_is_picked_follows_the_queues;
 use std::test::Fail;
 
 #[test]

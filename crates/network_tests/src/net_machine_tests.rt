@@ -1,6 +1,6 @@
-use crate::{BlockPlan, Event, RunPlan, Seed, StreamEnd, StreamPlan, Tally};
 use block_library::BlockKind;
 use chdr_words::{CmdOp, Epid};
+use net_machine::{BlockPlan, Event, RunPlan, Seed, StreamEnd, StreamPlan, Tally};
 use rf_base::{Copyable, Items};
 use std::test::Fail;
 use stream_endpoint::{Fault, Flow, Policy};

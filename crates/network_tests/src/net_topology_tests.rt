@@ -1,5 +1,5 @@
-use crate::{LinkNumbers, LinkPlan, NodePlan, Plan, PlanFault, Topology};
 use chdr_words::Epid;
+use net_topology::{LinkNumbers, LinkPlan, NodePlan, Plan, PlanFault, Topology};
 use rf_base::{Items, Memory};
 use std::alloc::Global;
 use std::test::Fail;
