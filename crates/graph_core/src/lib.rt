@@ -19,6 +19,3 @@ pub use law::{
 pub use place::{Edge, PortAt, Prop, PropAt, Rule, Side};
 pub use ports::{port_count, ports_at};
 pub use values::Values;
-
-#[cfg(test)]
-mod tests;

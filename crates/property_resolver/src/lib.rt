@@ -16,6 +16,3 @@ pub use fault::CommitFault;
 pub use graph_core::Rule;
 pub use resolve::commit;
 pub use steps::Steps;
-
-#[cfg(test)]
-mod tests;

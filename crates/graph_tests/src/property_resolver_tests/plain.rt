@@ -2,9 +2,9 @@
 ghost use Rattle.std.specs.Prelude.{◌<◌};
 
 use super::{add, link, property, resolve, set, value};
-use crate::CommitFault;
 use block_library::BlockKind;
 use graph_core::{Graph, Prop, PropAt, Side, Values, port_count};
+use property_resolver::CommitFault;
 use rf_base::Memory;
 use std::alloc::Global;
 use std::test::Fail;

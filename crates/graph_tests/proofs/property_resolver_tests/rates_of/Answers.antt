@@ -7,7 +7,7 @@ use Rattle.graph_core.specs.Derivation.{IsClosed, property_at}
 use Rattle.graph_core.specs.Pairs.{Pair, value_of}
 use Rattle.graph_core.specs.State.{State, with_values}
 use Rattle.graph_core.proofs.Laws.{edges_show}
-use Rattle.property_resolver.proofs.tests.rates_of.Goals as goal
+use Rattle.graph_tests.proofs.property_resolver_tests.rates_of.Goals as goal
 
 -- what is read at both ends of an edge, after values were committed that are closed
 same_rates : (old new : State) (values : List Pair) (edge : Edge) (out into : PropAt) (near far : Option ℕ) → IsClosed old.diagram values → Contains old.diagram.edges edge → new ≡ with_values old values

@@ -1,7 +1,7 @@
 ghost use Rattle.block_library.specs.Blocks.{FitsKind};
 
-use crate::{ConnectFault, Graph, PortAt, Prop, PropAt, SetFault, Side, Values};
 use block_library::BlockKind;
+use graph_core::{ConnectFault, Graph, PortAt, Prop, PropAt, SetFault, Side, Values};
 use rf_base::Memory;
 use std::test::Fail;
 

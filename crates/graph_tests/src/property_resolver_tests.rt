@@ -3,9 +3,9 @@ ghost use Rattle.block_library.specs.Blocks.{FitsKind};
 
 mod plain;
 
-use crate::{CommitFault, Rule, Steps, commit};
 use block_library::BlockKind;
 use graph_core::{ConnectFault, Edge, Graph, PortAt, Prop, PropAt, SetFault, Side};
+use property_resolver::{CommitFault, Rule, Steps, commit};
 use rf_base::Memory;
 use std::alloc::Global;
 use std::marker::Brand;
