@@ -10,10 +10,3 @@ pub use rf_script_reader::read_script;
 pub use rf_script_types::{
     Act, Acts, Due, Field, SCRIPT_LIMIT, Script, ScriptCommand, ScriptCommands, ScriptFault, Why,
 };
-
-#[cfg(test)]
-mod fault_tests;
-#[cfg(test)]
-mod field_tests;
-#[cfg(test)]
-mod tests;

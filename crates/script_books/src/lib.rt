@@ -18,6 +18,3 @@ pub use made::{end_at, kind_at};
 pub use refusal::Refusal;
 pub use run_books::{Lines, RunBook, TakenLists};
 pub use walk_books::{Found, FoundNode, FoundNodes, LostPort, LostPorts};
-
-#[cfg(test)]
-mod tests;

@@ -13,6 +13,3 @@ pub use commands::{put_command, put_done};
 pub use lines::{put_act, put_event, put_node, put_peak, put_sink, put_stream};
 pub use page::{LINE, Page};
 pub use refusal_text::put_refusal;
-
-#[cfg(test)]
-mod tests;

@@ -1,7 +1,7 @@
-use crate::{Page, put_refusal};
 use chdr_words::Epid;
 use graph_core::{Prop, PropAt, Rule, Side};
 use script_books::Refusal;
+use script_lines::{Page, put_refusal};
 use std::alloc::Global;
 use std::process::Abort;
 use std::test::Fail;

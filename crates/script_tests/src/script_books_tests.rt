@@ -1,10 +1,10 @@
-use crate::{Book, Refusal, RunBook, end_at, kind_at, refused, undrained};
 use block_library::BlockKind;
 use chdr_words::Epid;
 use graph_core::{PortAt, Side};
 use net_machine::StreamEnd;
 use rf_base::{Items, Memory};
 use rf_script_types::ScriptCommand;
+use script_books::{Book, Refusal, RunBook, end_at, kind_at, refused, undrained};
 use std::alloc::Global;
 use std::test::Fail;
 use stream_endpoint::{Flow, Policy};

@@ -1,5 +1,5 @@
 //! Each field of each command at its ends and outside them.
-use crate::tests::told_of;
+use crate::rf_script_tests::told_of;
 use std::alloc::Global;
 use std::test::Fail;
 

@@ -1,5 +1,5 @@
 //! Which fault comes first, and what JSON makes of a text.
-use crate::tests::{listed, told, told_of};
+use crate::rf_script_tests::{listed, told, told_of};
 use std::test::Fail;
 
 /// Whole texts, and what is said of each.

@@ -1,4 +1,4 @@
-use crate::{SCRIPT_LIMIT, encode_script, gen_script, read_script};
+use rf_script::{SCRIPT_LIMIT, encode_script, gen_script, read_script};
 use std::alloc::Global;
 use std::test::Fail;
 
