@@ -1,15 +1,23 @@
-//! The program `rfnoc`: its one call over standard input and standard output.
+//! The program `rfnoc`: its one call over standard input and standard output, with four register banks.
 #![tactic(auto)]
 
-use rf_base::Items;
+use block_registers::{Bank, Banks, PlainBank};
+use rf_base::{Items, Memory};
 use rf_outside::{StdSink, StdSource};
 use rfnoc_cli::Books;
+use std::alloc::Global;
 use std::process::ExitCode;
 use std::{env, io};
 
+/// How many words a bank has.
+const WORDS: usize = 16;
+
+/// Word 0 of bank 0; that of bank k is k more.
+const FIRST_WORD: u32 = 0x5246_0000;
+
 fn main(rt: HostRuntime) -> ExitCode {
     let status = match words(&rt) {
-        Ok(words) => perform(&rt, words.as_slice()),
+        Ok(words) => perform(&rt, words.as_slice()).unwrap_or(5),
         Err(error) => match error.kind() {
             io::ErrorKind::OutOfMemory => 5,
             _ => 2,
@@ -28,13 +36,42 @@ fn words(rt: &HostRuntime) -> io::Result<Vec<String>> {
     Ok(words)
 }
 
-fn perform(rt: &HostRuntime, words: &[String]) -> u8 {
+fn perform(rt: &HostRuntime, words: &[String]) -> Result<u8, Memory> {
     let mut src = StdSource::new(rt.stdin());
     let mut out = StdSink::new(rt.stdout());
+    let mut banks = banks(rt.alloc())?;
     let mut books = Books {
         list: Items::new(rt.alloc()),
     };
-    rfnoc_cli::rfnoc(rt.alloc(), words, &mut src, &mut out, &mut books)
+    Ok(rfnoc_cli::rfnoc(
+        rt.alloc(),
+        words,
+        &mut src,
+        &mut out,
+        &mut banks,
+        &mut books,
+    ))
+}
+
+/// Banks 0 to 3.
+fn banks(alloc: Global) -> Result<Banks, Memory> {
+    let mut banks = Banks::new(alloc)?;
+    for number in 0..4u16 {
+        let bank = bank(alloc, FIRST_WORD + number as u32)?;
+        let _before = banks.load(number, bank);
+    }
+    Ok(banks)
+}
+
+/// A bank whose first word is this one and can't be written; the others are 0, and can.
+fn bank(alloc: Global, first: u32) -> Result<Bank, Memory> {
+    let mut words = [0u32; WORDS];
+    let mut masks = [u32::MAX; WORDS];
+    words[0] = first;
+    masks[0] = 0;
+    let words = Items::from_vec(Vec::from_array(alloc, words)?);
+    let masks = Items::from_vec(Vec::from_array(alloc, masks)?);
+    Ok(Box::new(alloc, PlainBank::new(words, masks))?)
 }
 
 /// Says on standard error why nothing, or not all, was written.

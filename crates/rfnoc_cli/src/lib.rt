@@ -1,30 +1,19 @@
-//! The program `rfnoc` as one call over a source and a sink.
+//! The program `rfnoc` as one call over a source, a sink and banks.
 #![tactic(auto)]
 
-mod book;
-mod form;
-mod input;
-mod parts;
-mod perform;
-mod run;
-mod straight;
-mod texts;
+mod generate;
 mod top;
 mod words;
 
 pub use block_library::Line;
-pub use book::{Book, BookList, Books, Ends, Lines, RunBook, TakenLists, Tallies};
-pub use input::{SCRIPT_LIMIT, read_form};
-pub use run::run_one;
-pub use straight::Straight;
-pub use texts::report;
+pub use script_books::{Book, BookList, Books};
 pub use top::rfnoc;
 
 #[cfg(test)]
 mod capture_tests;
 #[cfg(test)]
-mod key_tests;
-#[cfg(test)]
 mod pcap_tests;
+#[cfg(test)]
+mod row_tests;
 #[cfg(test)]
 mod tests;
