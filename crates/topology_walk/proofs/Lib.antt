@@ -1,0 +1,10 @@
+mod Talking
+mod Reading
+mod Knowing
+mod Asking
+mod Probing
+mod Adding
+mod Counting
+mod Finding
+mod Agreeing
+mod Discovering

@@ -1,0 +1,12 @@
+//! The walk of a host: it finds the nodes of its network by probes, one for each port.
+//!
+//! Rule: docs/control-and-discovery.md, "Discovery and routes".
+#![tactic(auto)]
+
+mod answers;
+mod discovery;
+mod packets;
+mod probes;
+mod walk;
+
+pub use discovery::discover;
