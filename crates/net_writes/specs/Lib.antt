@@ -1,0 +1,4 @@
+pub mod Crossings
+pub mod Writing
+pub mod Talks
+pub mod Routes
