@@ -1,4 +1,6 @@
 pub mod Quiet
 pub mod Running
+pub mod Talking
+pub mod Controlling
 pub mod Lists
 pub mod Reading

@@ -4,6 +4,8 @@ use Rattle.std.specs.Prelude.{Option, None, Some}
 use Rattle.block_registers.specs.Registers.{Registers}
 use Rattle.fabric_net.specs.NetView.{NetSeen}
 use Rattle.fabric_net.specs.Standing.{IsResting, StandsFor}
+use Rattle.host_talk.proofs.Laws.{rest_settles, settled_states}
+use Rattle.host_talk.specs.Settled.{IsSettledNow}
 use Rattle.net_lawful.proofs.Laws.{lawful_stays}
 use Rattle.net_machine.proofs.Laws.{shapes_stay}
 use Rattle.net_machine.specs.Begin.{begun}
@@ -13,6 +15,7 @@ use Rattle.net_machine.specs.State.{Node, State}
 use Rattle.net_machine.specs.declared.event.Event.{Event}
 use Rattle.net_machine.specs.declared.plan.RunPlan.{RunPlan}
 use Rattle.net_present.specs.Present.{Present}
+use Rattle.net_rest.proofs.Laws.{runs_rest}
 use Rattle.net_topology.specs.declared.plan.Plan.{Plan}
 use Rattle.rf_script_types.specs.declared.command.ScriptCommand.TheVariants as command
 use Rattle.run_books.specs.Books.{IsChosenBook}
@@ -27,6 +30,7 @@ use Rattle.script_worlds.specs.WorldView as seen
 use Rattle.script_worlds.specs.Worlds.{Setup}
 use Rattle.script_worlds.specs.declared.runs.RunFault.TheVariants as fault
 use Rattle.stream_endpoint.specs.declared.fault.Fault.{Fault}
+use Rattle.stream_pump.proofs.Laws.{chosen_books_are_books}
 use Rattle.script_runner.specs.ScriptWorlds.{ScriptWorld, nodes_in, with_banks}
 use Rattle.script_runner.specs.Standing.{NetStandsFor, Performs, WorldStandsFor}
 use Rattle.script_runner.proofs.Quiet.{in-each-world, world_of}
@@ -86,15 +90,30 @@ pub tree-stays : (seed : ℕ) (plan : RunPlan) (old new : Present) (slots left :
 tree-stays seed plan old new slots left run w ends stands banks =
     (ends.net w stands banks).now.tree ∙ (shapes_stay (begun plan w) (moves_of run.journal)).tree ∙ sym stands.now.tree
 
--- and leaves the net as one of its network, at rest
+-- and so it keeps what the nodes hold
+nodes-stay : (seed : ℕ) (plan : RunPlan) (old new : Present) (slots left : List (Option Registers)) (run : RunBook) (w : State)
+    → Ends seed plan old new slots left run → IsSettledNow old → CanBegin old.tree old.nodes plan → StandsFor old w → w.banks ≡ slots
+    → new.nodes ≡ old.nodes
+nodes-stay seed plan old new slots left run w ends settled can stands banks =
+    let rest = (settled_states old w stands settled).rest in
+    let begins : CanBegin w.tree w.nodes plan = subst (λ (t : Plan). CanBegin t w.nodes plan) stands.now.tree
+    (subst (λ (ns : List Node). CanBegin old.tree ns plan) stands.now.nodes can) in
+    let told = chosen_books_are_books seed plan w run (record { lawful = stands.lawful; rest = rest; can = begins }) (ends.book w stands banks) in
+    (ends.net w stands banks).now.nodes ∙ (runs_rest plan w run.journal stands.lawful rest begins told.whole).nodes ∙ sym stands.now.nodes
+
+-- and leaves the net as one of its network, settled
 pub ready-again : (tree : Option Plan) (seed : ℕ) (plan : RunPlan) (net new : NetSeen) (slots left : List (Option Registers)) (run : RunBook) (w : State)
-    → seen.AreReady tree (Some net) → Ends seed plan net.present new.present slots left run → IsResting new.present
+    → seen.AreReady tree (Some net) → CanBegin net.present.tree net.present.nodes plan
+    → Ends seed plan net.present new.present slots left run → IsResting new.present
     → StandsFor net.present w → w.banks ≡ slots → seen.AreReady tree (Some new)
-ready-again None seed plan net new slots left run w ready ends rest stands banks = absurd ready
-ready-again (Some tree) seed plan net new slots left run w ready ends rest stands banks = record {
-  tree_is = tree-stays seed plan net.present new.present slots left run w ends stands banks ∙ ready.tree_is;
-  rest = rest;
-}
+ready-again None seed plan net new slots left run w ready can ends rest stands banks = absurd ready
+ready-again (Some tree) seed plan net new slots left run w ready can ends rest stands banks =
+    let same = tree-stays seed plan net.present new.present slots left run w ends stands banks in
+    record {
+      tree_is = same ∙ ready.tree_is;
+      settled = rest_settles net.present new.present ready.settled rest same
+          (nodes-stay seed plan net.present new.present slots left run w ends ready.settled can stands banks);
+    }
 
 -- a run that was done, in the world whose parts are those of the program's
 run-so : (setup : Setup) (seed : ℕ) (trace peak : Bool) (lose : List Fault) (plan : RunPlan) (net new : NetSeen) (slots left : List (Option Registers))

@@ -1,4 +1,6 @@
 pub mod ScriptWorlds
+pub mod Talks
+pub mod Controls
 pub mod Performed
 pub mod Standing
 pub mod FaultLines

@@ -17,7 +17,9 @@ use Rattle.script_worlds.specs.Books.{IsQuietBook}
 use Rattle.script_worlds.specs.Causes.{IsRunCause}
 use Rattle.script_worlds.specs.Worlds.{IsNext, plan_of, unless_refused}
 use Rattle.stream_endpoint.specs.declared.fault.Fault.{Fault}
-use Rattle.script_runner.specs.ScriptWorlds.{ScriptWorld, first_world, nodes_in, state_in}
+use Rattle.script_runner.specs.Controls.{IsControlBook, after_control, control_of}
+use Rattle.script_runner.specs.ScriptWorlds.{ScriptWorld, banks_in, first_world, nodes_in, state_in}
+use Rattle.script_runner.specs.Talks.{OnNet}
 
 -- ---- runs
 
@@ -57,7 +59,8 @@ IsBookOf world (command.Net nodes links room routed limit) told =
     IsQuietBook world.setup world.banks (command.Net nodes links room routed limit) told
 IsBookOf world (command.Discover host lose) told = IsLeft told
 IsBookOf world (command.Route host from to lose) told = IsLeft told
-IsBookOf world (command.Control host to port op addr words enables lose) told = IsLeft told
+IsBookOf world (command.Control host to port op addr words enables lose) told =
+    OnNet (IsControlBook to (control_of host port op addr words enables) lose) (state_in world) told
 IsBookOf world (command.Unload port) told = IsQuietBook world.setup world.banks (command.Unload port) told
 IsBookOf world (command.Block kind ins outs packets time) told =
     IsQuietBook world.setup world.banks (command.Block kind ins outs packets time) told
@@ -78,13 +81,10 @@ machine_past world lose told = world.machine
 abbrev pub machine_after : ScriptWorld → ScriptCommand → Book → Option State
 machine_after world (command.Net nodes links room routed limit) told =
     unless_refused told world.machine (Some (built (plan_of nodes links room limit) routed world.banks))
+machine_after world (command.Control host to port op addr words enables lose) told =
+    option_map (after_control to (control_of host port op addr words enables) lose told) (state_in world)
 machine_after world (command.Run seed trace peak lose) told = machine_past world lose told
 machine_after world c told = world.machine
-
--- the banks of a state, if there is one
-abbrev pub banks_in : List (Option Registers) → Option State → List (Option Registers)
-banks_in banks None = banks
-banks_in banks (Some w) = w.banks
 
 -- a run leaves the banks of its last state
 abbrev pub banks_past : ScriptWorld → List Fault → Book → List (Option Registers)
@@ -94,6 +94,8 @@ banks_past world lose told = world.banks
 -- the banks after a command
 abbrev pub banks_after : ScriptWorld → ScriptCommand → Book → List (Option Registers)
 banks_after world (command.Unload port) told = unless_refused told world.banks (slice_set world.banks port None)
+banks_after world (command.Control host to port op addr words enables lose) told =
+    banks_in world.banks (option_map (after_control to (control_of host port op addr words enables) lose told) (state_in world))
 banks_after world (command.Run seed trace peak lose) told = banks_past world lose told
 banks_after world c told = world.banks
 

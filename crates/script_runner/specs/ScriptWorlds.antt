@@ -27,3 +27,8 @@ state_in world = option_map (with_banks world.banks) world.machine
 abbrev pub nodes_in : Option State → List Node
 nodes_in None = []
 nodes_in (Some w) = w.nodes
+
+-- the banks of a state, if there is one
+abbrev pub banks_in : List (Option Registers) → Option State → List (Option Registers)
+banks_in banks None = banks
+banks_in banks (Some w) = w.banks

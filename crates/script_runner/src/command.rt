@@ -3,6 +3,7 @@ ghost use Rattle.rf_script_types.specs.Fits.{FitsCommand};
 ghost use Rattle.script_runner.specs.ScriptWorlds.{ScriptWorld};
 ghost use Rattle.script_runner.specs.Standing.{Performs, WorldStandsFor};
 
+use crate::controls::{control, request_of};
 use crate::runs::run;
 use block_registers::RegisterSlots;
 use net_machine::Seed;
@@ -14,8 +15,8 @@ use std::alloc::Global;
 
 /// Performs one command on one thread, and returns its book.
 ///
-/// Walks, routes, control requests, twins and duplexes aren't performed: their book is `Refused(NotBuilt)`. After
-/// `Memory` the world is only good to be dropped. Rule: docs/scripts-and-reports.md.
+/// Walks, routes, twins and duplexes aren't performed: their book is `Refused(NotBuilt)`. After `Memory` the world is
+/// only good to be dropped. Rule: docs/scripts-and-reports.md.
 pub fn run_command_one<B: RegisterSlots>(
     alloc: Global,
     world: &mut World,
@@ -36,9 +37,21 @@ pub fn run_command_one<B: RegisterSlots>(
             peak: _,
             lose,
         } => run(alloc, world, banks, Seed(*seed), lose),
+        ScriptCommand::Control {
+            host,
+            to,
+            port,
+            op,
+            addr,
+            words,
+            enables,
+            lose,
+        } => {
+            let request = request_of(*host, *port, *op, *addr, words, *enables);
+            control(alloc, world, banks, *to, &request, lose)
+        }
         ScriptCommand::Discover { .. }
         | ScriptCommand::Route { .. }
-        | ScriptCommand::Control { .. }
         | ScriptCommand::Twin { .. }
         | ScriptCommand::Duplex { .. } => Ok(Book::Refused(Refusal::NotBuilt)),
         ScriptCommand::Net { .. }

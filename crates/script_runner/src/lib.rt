@@ -4,9 +4,11 @@
 #![tactic(auto)]
 
 mod command;
+mod controls;
 mod fault_text;
 mod runs;
 mod script;
+mod talks;
 mod top;
 
 pub use command::run_command_one;

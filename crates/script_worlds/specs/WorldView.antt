@@ -3,7 +3,8 @@ use Rattle.std.specs.Prelude.{◌≡◌, Bool, List, [], Option, None, Some}
 use Rattle.fabric_events.specs.Begun.{built_now}
 use Rattle.fabric_net.specs.NetView.{NetSeen}
 use Rattle.block_registers.specs.Registers.{Registers}
-use Rattle.fabric_net.specs.Standing.{IsResting, StandsFor}
+use Rattle.fabric_net.specs.Standing.{StandsFor}
+use Rattle.host_talk.specs.Settled.{IsSettledNow}
 use Rattle.net_machine.specs.Begin.{built}
 use Rattle.net_machine.specs.State.{Node}
 use Rattle.net_topology.specs.declared.plan.Plan.{Plan}
@@ -37,10 +38,10 @@ abbrev pub StandsOn : Option Plan → Layout → Type 0
 StandsOn None layout = Unit {0}
 StandsOn (Some tree) layout = StandIn tree layout
 
--- the net is one of the tree, and nothing is under way in it
+-- the net is one of the tree, and settled: nothing is under way in it, and a host may ask in it
 pub record IsReady (tree : Plan) (net : NetSeen) : Type 0 where
   pub tree_is : net.present.tree ≡ tree
-  pub rest : IsResting net.present
+  pub settled : IsSettledNow net.present
 
 abbrev pub AreReady : Option Plan → Option NetSeen → Type 0
 AreReady tree None = Unit {0}

@@ -1,0 +1,117 @@
+//! Control commands: a host of the network asks a control request.
+ghost use Rattle.std.specs.Prelude.{◌≡◌, false, IfOk};
+ghost use Rattle.chdr_words.specs.Control.{FitsControl};
+ghost use Rattle.host_talk.specs.Settled.{IsSettledNow};
+ghost use Rattle.script_runner.specs.Controls.{IsControlCause, IsControlled, control_of};
+ghost use Rattle.script_runner.specs.ScriptWorlds.{ScriptWorld};
+ghost use Rattle.script_runner.specs.Standing.{HasTold, Talks, WorldStandsFor};
+
+use crate::talks::{has_host, name};
+use block_registers::RegisterSlots;
+use chdr_words::{Control, CtrlOp, CtrlStatus, Epid, Words15};
+use ctrl_transactions::{CtrlFault, Host};
+use fabric_net::Net;
+use rf_base::Memory;
+use script_books::{Book, Refusal};
+use script_worlds::World;
+use std::alloc::Global;
+use stream_endpoint::Faults;
+
+/// The request of a control command.
+pub(crate) fn request_of(
+    host: Epid,
+    port: u16,
+    op: CtrlOp,
+    addr: u32,
+    words: &Words15,
+    enables: u8,
+) -> Control
+    ensures { result ≡ control_of host port op addr words.now enables }
+{
+    Control {
+        src: host,
+        ack: false,
+        time: None,
+        seq: 0,
+        src_port: 0,
+        dst_port: port,
+        status: CtrlStatus::Okay,
+        op,
+        enables,
+        addr,
+        words: words.copy(),
+    }
+}
+
+/// Has a host of a world's network ask a control request of an EPID, if nothing refuses it.
+///
+/// The host is the source of the request.
+pub(crate) fn control<B: RegisterSlots>(
+    alloc: Global,
+    world: &mut World,
+    banks: &mut B,
+    dst: Epid,
+    request: &Control,
+    lose: &Faults,
+) -> Result<Book, Memory>
+    requires fits { FitsControl request.now }
+    requires first { request.now.seq ≡ 0 }
+    requires asks { request.now.ack ≡ false }
+    ensures { IfOk result (λ book. (w : ScriptWorld) → WorldStandsFor world.old (B.slots banks.old) w →
+        Talks (IsControlled dst request.now lose.now) w book world.new (B.slots banks.new)) }
+{
+    match world.take_net() {
+        Some(mut net) => {
+            let book = control_in(alloc, &mut net, banks, dst, request, lose)?;
+            world.put_net(net);
+            Ok(book)
+        }
+        None => Ok(Book::Refused(Refusal::NoNet)),
+    }
+}
+
+/// The same in a net.
+fn control_in<B: RegisterSlots>(
+    alloc: Global,
+    net: &mut Net,
+    banks: &mut B,
+    dst: Epid,
+    request: &Control,
+    lose: &Faults,
+) -> Result<Book, Memory>
+    requires settled { IsSettledNow net.old.present }
+    requires fits { FitsControl request.now }
+    requires first { request.now.seq ≡ 0 }
+    requires asks { request.now.ack ≡ false }
+    ensures { IfOk result (λ book. HasTold (IsControlled dst request.now lose.now) net.old (B.slots banks.old) book
+        net.new (B.slots banks.new)) }
+{
+    if let Some(refusal) = refusal_of(net, request.src, dst) {
+        return Ok(Book::Refused(refusal));
+    }
+    net.stands();
+    name(net, lose)?;
+    let mut host = Host::new(request.src);
+    match host.transact(alloc, net, banks, dst, request) {
+        Ok(ack) => Ok(Book::Control(ack)),
+        Err(CtrlFault::NoAck) => Ok(Book::Refused(Refusal::NoAck)),
+        Err(CtrlFault::NoRoute { .. }) => unreachable!(),
+        Err(CtrlFault::Memory) => Err(Memory),
+    }
+}
+
+/// Why a control request from one EPID to another isn't asked; none if nothing refuses it.
+fn refusal_of(net: &Net, host: Epid, dst: Epid) -> Option<Refusal>
+    ensures { IsControlCause net.now.present.tree net.now.present.nodes host dst result }
+{
+    if !has_host(net, host) {
+        return Some(Refusal::NoHost { epid: host });
+    }
+    if !net.reaches(host, dst) {
+        return Some(Refusal::NoRoute { epid: dst });
+    }
+    if !net.reaches(dst, host) {
+        return Some(Refusal::NoRoute { epid: host });
+    }
+    None
+}
