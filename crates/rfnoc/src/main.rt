@@ -1,13 +1,16 @@
 //! The program `rfnoc`: its one call over standard input and standard output, with four register banks.
 #![tactic(auto)]
 
-use block_registers::{Bank, Banks, PlainBank};
+use block_registers::{Banks, PlainBank};
 use rf_base::{Items, Memory};
 use rf_outside::{StdSink, StdSource};
 use rfnoc_cli::Books;
 use std::alloc::Global;
 use std::process::ExitCode;
 use std::{env, io};
+
+/// How many banks there are, from 0 on.
+const BANKS: u16 = 4;
 
 /// How many words a bank has.
 const WORDS: usize = 16;
@@ -36,10 +39,15 @@ fn words(rt: &HostRuntime) -> io::Result<Vec<String>> {
     Ok(words)
 }
 
+/// Performs what the words ask for, over the banks.
 fn perform(rt: &HostRuntime, words: &[String]) -> Result<u8, Memory> {
     let mut src = StdSource::new(rt.stdin());
     let mut out = StdSink::new(rt.stdout());
-    let mut banks = banks(rt.alloc())?;
+    let mut banks = Banks::new(rt.alloc())?;
+    for number in 0..BANKS {
+        let bank = bank(rt.alloc(), FIRST_WORD + number as u32)?;
+        let _before = banks.load(number, Box::new(rt.alloc(), bank)?);
+    }
     let mut books = Books {
         list: Items::new(rt.alloc()),
     };
@@ -53,25 +61,15 @@ fn perform(rt: &HostRuntime, words: &[String]) -> Result<u8, Memory> {
     ))
 }
 
-/// Banks 0 to 3.
-fn banks(alloc: Global) -> Result<Banks, Memory> {
-    let mut banks = Banks::new(alloc)?;
-    for number in 0..4u16 {
-        let bank = bank(alloc, FIRST_WORD + number as u32)?;
-        let _before = banks.load(number, bank);
-    }
-    Ok(banks)
-}
-
 /// A bank whose first word is this one and can't be written; the others are 0, and can.
-fn bank(alloc: Global, first: u32) -> Result<Bank, Memory> {
+fn bank(alloc: Global, first: u32) -> Result<PlainBank, Memory> {
     let mut words = [0u32; WORDS];
     let mut masks = [u32::MAX; WORDS];
     words[0] = first;
     masks[0] = 0;
     let words = Items::from_vec(Vec::from_array(alloc, words)?);
     let masks = Items::from_vec(Vec::from_array(alloc, masks)?);
-    Ok(Box::new(alloc, PlainBank::new(words, masks))?)
+    Ok(PlainBank::new(words, masks))
 }
 
 /// Says on standard error why nothing, or not all, was written.
