@@ -31,6 +31,7 @@ use Rattle.net_machine.specs.State.{Node, State, node_in}
 use Rattle.net_lone.specs.Lone.{answering_at, moved_over, passed_so}
 use Rattle.net_lone.specs.Stages.{UnderWay, lone}
 use Rattle.net_walks.specs.Walks.{advertised_at, collector, information, inquiry, onward, returner, walk, walker}
+use Rattle.net_walks.proofs.Nodes.{arrivals}
 
 -- ---- lists of hops
 
@@ -96,20 +97,9 @@ bits-tell tree x arrival port (Some Adapter) fits there here other b is = bit-te
 bits-tell tree x arrival port (Some (Host epid)) fits there here other b is = absurd (other (omega (arith, there, here)))
 bits-tell tree x arrival port (Some (Endpoint epid bank)) fits there here other b is = absurd (other (omega (arith, there, here)))
 
-arrival-by : (tree : Plan) (x port : ℕ) (o : Option NodePlan) → port < option_map_or ports_of o 0 →
-    (option_map_or (site_by tree x port) o (site_by tree x port (Host no_epid))).arrival ≡ port
-arrival-by tree x port None h = absurd (omega (arith, h))
-arrival-by tree x port (Some (Crossbar ports)) h = refl
-arrival-by tree x port (Some Adapter) h = refl
-arrival-by tree x port (Some (Host epid)) h = omega (arith, h)
-arrival-by tree x port (Some (Endpoint epid bank)) h = omega (arith, h)
-
 -- a packet comes by a port of the node
 comes-by-port : (tree : Plan) → IsTree tree → (d : ℕ) → d < 2 * length tree.links → end_port tree.links d < port_count tree.nodes (end_of tree.links d)
 comes-by-port tree is d lt = (links_join_ports tree is d lt).3
-
-arrival-is : (tree : Plan) → IsTree tree → (d : ℕ) → d < 2 * length tree.links → (site_at tree (end_of tree.links d) (end_port tree.links d)).arrival ≡ end_port tree.links d
-arrival-is tree is d lt = arrival-by tree (end_of tree.links d) (end_port tree.links d) (planned tree (end_of tree.links d)) (comes-by-port tree is d lt)
 
 -- by a port that isn't that of arrival a hop goes on if it has a link, and else there is no such port
 exit-is : (tree : Plan) → IsTree tree → FitsPlan tree → (d : ℕ) → d < 2 * length tree.links → (port : ℕ) → port < port_count tree.nodes (end_of tree.links d) →
@@ -127,7 +117,7 @@ exit-is tree is fits d lt port there other b linked = by_link b has
     has = bits-tell tree x (end_port tree.links d) port (planned tree x) (fits-there tree.nodes x fits.nodes) there (comes-by-port tree is d lt) other b linked
 
     new : (port == site.arrival) ≡ false
-    new = ap (λ (a : ℕ). port == a) (arrival-is tree is d lt) ∙ ne_eqb port (end_port tree.links d) other
+    new = ap (λ (a : ℕ). port == a) (arrivals tree d is lt) ∙ ne_eqb port (end_port tree.links d) other
 
     by_link : (c : Bool) → has_link site.linked port ≡ c → exit_by site port ≡ (if c then Forward port else NoSuchPort port)
     by_link true h = λ i. if h i && not (new i) then Forward port else NoSuchPort port
@@ -161,7 +151,7 @@ onward-at w tree fits d lt src port r rs there small other b linked =
     let m = walk src (onward port ∷ r ∷ rs) in
     let kept = last-kept src (onward port) r rs in
     let exit = exit-is w.tree tree fits d lt port there other b linked in
-    let arrival = arrival-is w.tree tree d lt in
+    let arrival = arrivals w.tree d tree lt in
     ap (λ (it : Passing). passed_so w d forward_vc p it) (walks-there w.tree w.nodes d src (onward port) r rs)
     ∙ ap (λ (work : Work). passed_so w d forward_vc p (leaves-so w.tree w.nodes x p (without_first m work.last) work.exit work.table)) (onward-leaves site table src port (r ∷ rs) small)
     ∙ (λ i. passed_so w d forward_vc p (leaves-so w.tree w.nodes x p (kept i) (exit i) (with_exit table src (arrival i))))
@@ -195,4 +185,4 @@ inquiry-returns w tree d lt src =
     let x = end_of w.tree.links d in
     let table = (node_in w.nodes x).table in
     ap (λ (a : ℕ). passed_so w d forward_vc (walker src (inquiry ∷ collector ∷ []))
-    (leaves-so w.tree w.nodes x (walker src (inquiry ∷ collector ∷ [])) (walk src (information w.tree d ∷ [])) Return (with_exit table src a))) (arrival-is w.tree tree d lt)
+    (leaves-so w.tree w.nodes x (walker src (inquiry ∷ collector ∷ [])) (walk src (information w.tree d ∷ [])) Return (with_exit table src a))) (arrivals w.tree d tree lt)

@@ -1,87 +1,36 @@
--- Walkers come back from the ends of their ways.
-use Rattle.std.proofs.Common.{◌≡◌, ℕ, ◌*◌, ◌<◌, Bool, true, false, List, [], ◌∷◌, ◌++◌, length, refl, sym, ◌∙◌, ap, subst, arith, if◌then◌else◌}
-use Rattle.std.specs.Prelude.{Option, Some, None, unwrap_or}
-use Rattle.std.specs.Option.{option_and_then, option_map_or}
-use Rattle.std.proofs.lemmas.Bool.{ne_eqb}
-use Rattle.chdr_packets.specs.declared.packet.Packet.{Packet}
+-- Probes come back from the ends of their ways.
+use Rattle.std.proofs.Common.{◌≡◌, ℕ, ◌*◌, ◌<◌, Bool, true, false, List, [], ◌∷◌, length, refl, sym, ◌∙◌, ap, subst, if◌then◌else◌}
+use Rattle.std.specs.Prelude.{Option, Some}
+use Rattle.std.specs.Option.{option_and_then}
 use Rattle.chdr_words.specs.declared.epid.Epid.{Epid}
 use Rattle.chdr_words.specs.declared.management.MgmtOp.{MgmtOp}
-use Rattle.net_topology.specs.Leads.{has_table}
 use Rattle.net_topology.specs.Links.{back_of, end_of, end_port, link_at}
-use Rattle.net_topology.specs.Tree.{IsTree, epid_at, epid_of, port_count, ports_of}
-use Rattle.net_topology.specs.declared.plan.NodePlan.{NodePlan}
-use Rattle.net_topology.specs.declared.plan.NodePlan.TheVariants.{Crossbar, Adapter, Host, Endpoint}
+use Rattle.net_topology.specs.Tree.{IsTree}
 use Rattle.net_topology.specs.declared.plan.Plan.{Plan}
-use Rattle.net_topology.proofs.Laws.{links_join_ports, links_leave_by_ports}
-use Rattle.net_machine.specs.Nodes.{exits_of, is_host, is_host_at, is_switch, own_epid, planned, route_from}
-use Rattle.net_machine.specs.Plans.{no_epid}
+use Rattle.net_topology.proofs.Laws.{links_join_ports}
+use Rattle.net_machine.specs.Nodes.{exits_of, is_switch, route_from}
 use Rattle.net_machine.specs.Queues.{forward_vc}
-use Rattle.net_machine.specs.State.{Node, State}
-use Rattle.net_lone.specs.Control.{has_answered, has_asked, loses_answer, loses_request}
+use Rattle.net_machine.specs.State.{Node, State, node_in}
+use Rattle.net_nodes.specs.Table.{has_place}
+use Rattle.net_lone.specs.Control.{has_asked}
 use Rattle.net_lone.specs.Lone.{answering_at, moved_over}
-use Rattle.net_lone.specs.Runs.{Comes}
-use Rattle.net_lone.specs.Stages.{Answered, Answering, Gone, IsSettled, Lone, lone, next_event}
-use Rattle.net_lone.proofs.Laws.{answers_come_back, requests_enter}
-use Rattle.net_walks.specs.Probes.{BarePortsSendBack, IsWalk, ProbesComeBack, SendsWalkers, WalkEnds, walk_end}
-use Rattle.net_walks.specs.Walks.{advertised_at, collector, hops_over, information, inquiry, onward, returner, walker}
-use Rattle.net_walks.specs.Ways.{GoesOver, last_of, left_by, passed_over}
-use Rattle.net_walks.proofs.Backs.{end-back, leads-back}
+use Rattle.net_lone.specs.Stages.{IsSettled, lone}
+use Rattle.net_walks.specs.Probes.{BarePortsSendBack, ProbesComeBack}
+use Rattle.net_walks.specs.Returns.{HasArrived, SendsBack}
+use Rattle.net_walks.specs.Walks.{advertised_at, collector, information, inquiry, onward, returner, walker}
+use Rattle.net_walks.specs.Ways.{last_of, left_by, passed_over}
+use Rattle.net_walks.proofs.Backs.{ports-back}
+use Rattle.net_walks.proofs.Entries.{are-entered}
 use Rattle.net_walks.proofs.Hops.{inquiry-returns, onward-returns}
-use Rattle.net_walks.proofs.Walking.{AllHavePlaces, advertise-here, back-from, entries-left, long-stays, places-stay, walks-over}
+use Rattle.net_walks.proofs.Nodes.{one-port}
+use Rattle.net_walks.proofs.Returning.{walkers-arrive, walkers-back}
+use Rattle.net_walks.proofs.Walking.{entry-here}
 
--- ---- hosts
-
-host-epid : (tree : Plan) (x : ℕ) → is_host_at tree x ≡ true → epid_at tree.nodes x ≡ Some (own_epid tree x)
-host-epid tree x is = by_node (planned tree x) is
-  where
-    by_node : (o : Option NodePlan) → option_map_or is_host o false ≡ true → option_and_then epid_of o ≡ Some (unwrap_or (option_and_then epid_of o) no_epid)
-    by_node None h = let z : ◌≡◌ {A = Bool} false true = h in absurd cc
-    by_node (Some (Crossbar ports)) h = let z : ◌≡◌ {A = Bool} false true = h in absurd cc
-    by_node (Some Adapter) h = let z : ◌≡◌ {A = Bool} false true = h in absurd cc
-    by_node (Some (Host own)) h = refl
-    by_node (Some (Endpoint own bank)) h = let z : ◌≡◌ {A = Bool} false true = h in absurd cc
-
-pub host-ends : (tree : Plan) (x : ℕ) → is_host_at tree x ≡ true → is_switch tree x ≡ false
-host-ends tree x is = by_node (planned tree x) is
-  where
-    by_node : (o : Option NodePlan) → option_map_or is_host o false ≡ true → option_map_or has_table o false ≡ false
-    by_node None h = refl
-    by_node (Some (Crossbar ports)) h = let z : ◌≡◌ {A = Bool} false true = h in absurd cc
-    by_node (Some Adapter) h = let z : ◌≡◌ {A = Bool} false true = h in absurd cc
-    by_node (Some (Host own)) h = refl
-    by_node (Some (Endpoint own bank)) h = refl
-
--- a node without a table has one port at most
-pub one-port : (tree : Plan) (z port : ℕ) → is_switch tree z ≡ false → port < port_count tree.nodes z → port ≡ 0
-one-port tree z port is lt = by_node (planned tree z) is lt
-  where
-    by_node : (o : Option NodePlan) → option_map_or has_table o false ≡ false → port < option_map_or ports_of o 0 → port ≡ 0
-    by_node None h l = omega (arith, l)
-    by_node (Some (Crossbar ports)) h l = let z : ◌≡◌ {A = Bool} true false = h in absurd cc
-    by_node (Some Adapter) h l = let z : ◌≡◌ {A = Bool} true false = h in absurd cc
-    by_node (Some (Host own)) h l = omega (arith, l)
-    by_node (Some (Endpoint own bank)) h l = omega (arith, l)
-
--- ---- what lasts on the way
-
-places-over : (tree : Plan) (src : Epid) (d : ℕ) (ds : List ℕ) (nodes : List Node) → AllHavePlaces tree src nodes → AllHavePlaces tree src (passed_over tree src d ds nodes)
-places-over tree src d [] nodes have = have
-places-over tree src d (e ∷ ds) nodes have = places-over tree src e ds (advertised_at tree src d nodes) (places-stay tree src d nodes have)
-
-long-over : (tree : Plan) (src : Epid) (d : ℕ) (ds : List ℕ) (nodes : List Node) → length (passed_over tree src d ds nodes) ≡ length nodes
-long-over tree src d [] nodes = refl
-long-over tree src d (e ∷ ds) nodes = long-over tree src e ds (advertised_at tree src d nodes) ∙ long-stays tree src d nodes
-
-last-there : (tree : Plan) (d : ℕ) → d < 2 * length tree.links → (ds : List ℕ) → GoesOver tree d ds → last_of d ds < 2 * length tree.links
-last-there tree d lt [] goes = lt
-last-there tree d lt (e ∷ ds) goes = last-there tree e goes.0.there ds goes.1
-
--- ---- back from the last node
-
--- the answer's route
+-- the answer's route from the last node, which has the entry or has no table
 last-route : (tree : Plan) → IsTree tree → (src : Epid) (l : ℕ) → l < 2 * length tree.links → (nodes : List Node) → length nodes ≡ length tree.nodes →
-    AllHavePlaces tree src nodes → route_from tree (advertised_at tree src l nodes) (end_of tree.links l) src ≡ Some (back_of l)
-last-route tree is src l lt nodes long have = by_sort (is_switch tree (end_of tree.links l)) refl
+    (is_switch tree (end_of tree.links l) ≡ true → has_place (node_in nodes (end_of tree.links l)).table src ≡ true) →
+    route_from tree (advertised_at tree src l nodes) (end_of tree.links l) src ≡ Some (back_of l)
+last-route tree is src l lt nodes long place = by_sort (is_switch tree (end_of tree.links l)) refl
   where
     z : ℕ
     z = end_of tree.links l
@@ -92,70 +41,41 @@ last-route tree is src l lt nodes long have = by_sort (is_switch tree (end_of tr
     by_sort : (b : Bool) → is_switch tree z ≡ b → (if b then option_and_then (link_at tree.links z) (exits_of left z src) else link_at tree.links z 0) ≡ Some (back_of l)
     by_sort true switch =
         ap (λ (o : Option ℕ). option_and_then (link_at tree.links z) o)
-        (advertise-here tree src l nodes (subst (λ n. z < n) (sym long) (links_join_ports tree is l lt).1) (have z switch))
-        ∙ leads-back tree is l lt
+        (entry-here tree src l nodes (subst (λ n. z < n) (sym long) (links_join_ports tree is l lt).1) (place switch))
+        ∙ ports-back tree l is lt
     by_sort false switch =
         ap (λ (p : ℕ). link_at tree.links z p) (sym (one-port tree z (end_port tree.links l) switch (links_join_ports tree is l lt).3))
-        ∙ leads-back tree is l lt
+        ∙ ports-back tree l is lt
 
-ends-of : (w : State) (x d : ℕ) (ds : List ℕ) (src : Epid) (hops : List (List MgmtOp)) → next_event (walk_end w x d ds src hops).stage ≡ None
-ends-of w x d ds src hops = by_loss (loses_request w) (loses_answer w)
-  where
-    u : State
-    u = has_answered (record (has_asked w) { nodes = left_by w.tree src d ds w.nodes })
-
-    by_loss : (m n : Bool) → next_event (if m then lone (has_asked w) Gone else lone u (if n then Gone else Answered x (returner src hops))).stage ≡ None
-    by_loss true n = refl
-    by_loss false true = refl
-    by_loss false false = refl
-
--- where the last hop but one returns at the end of the way
-walk-back : (w : State) (x d : ℕ) (ds : List ℕ) (src : Epid) (h r : List MgmtOp) (rs hops : List (List MgmtOp)) → IsSettled w → SendsWalkers w x src → IsWalk w.tree x d ds →
+-- the last node sends a probe back, and leaves its entry alone
+probe-sent : (w : State) (d : ℕ) (ds : List ℕ) (src : Epid) (hops back : List (List MgmtOp)) → IsSettled w → HasArrived w d ds src →
     let l = last_of d ds in
     let u : State = record (has_asked w) { nodes = passed_over w.tree src d ds w.nodes } in
     let v : State = record (has_asked w) { nodes = left_by w.tree src d ds w.nodes } in
-    moved_over u l forward_vc (walker src (h ∷ r ∷ rs)) ≡ lone v (answering_at v (end_of w.tree.links l) (returner src hops)) →
-    WalkEnds w x (walker src (hops_over w.tree.links (d ∷ ds) ++ h ∷ r ∷ rs)) (walk_end w x d ds src hops)
-walk-back w x d ds src h r rs hops settled sends walk final =
-    let tree = settled.queues.tree in
+    moved_over u l forward_vc (walker src hops) ≡ lone v (answering_at v (end_of w.tree.links l) (returner src back)) →
+    SendsBack w d ds src hops (left_by w.tree src d ds w.nodes) back
+probe-sent w d ds src hops back settled arrived moves =
     let l = last_of d ds in
-    let z = end_of w.tree.links l in
-    let v : State = record (has_asked w) { nodes = left_by w.tree src d ds w.nodes } in
-    let back : Packet = returner src hops in
-    let lt : d < 2 * length w.tree.links = (links_leave_by_ports w.tree d x 0 walk.first).2 in
-    let last_lt = last-there w.tree d lt ds walk.goes in
-    let epid : epid_at w.tree.nodes x ≡ Some src = host-epid w.tree x sends.host ∙ ap (λ (e : Epid). Some e) sends.own in
-    let have : AllHavePlaces w.tree src w.nodes = λ y switch. settled.places y x src switch epid in
-    let route : route_from w.tree v.nodes z src ≡ Some (back_of l) =
-    last-route w.tree tree src l last_lt (passed_over w.tree src d ds w.nodes) (long-over w.tree src d ds w.nodes ∙ settled.nodes) (places-over w.tree src d ds w.nodes have) in
-    let entries = entries-left w.tree tree src d lt ds w.nodes walk.goes walk.once settled.nodes have in
-    let begins : end_of w.tree.links (back_of d) ≡ x = end-back w.tree.links d ∙ (links_leave_by_ports w.tree d x 0 walk.first).0 in
-    let further = back-from w.tree tree v.nodes src x d lt ds [] begins walk.goes entries in
-    let end : Lone = lone (has_answered v) (if loses_answer w then Gone else Answered x back) in
-    let comes = answers_come_back v x z back (back_of l) further.0 (ne_eqb src.0 0 (λ none. omega (arith, none, sends.some)))
-    (ap (λ b. lone (has_answered v) (if b then Answered x back else Gone)) sends.host) route further.1 (host-ends w.tree x sends.host) in
-    let at_last : moved_over (record (has_asked w) { nodes = passed_over w.tree src d ds w.nodes }) l forward_vc (walker src (h ∷ r ∷ rs)) ≡ lone v (Answering z back) =
-    final ∙ ap (λ (o : Option ℕ). lone v (option_map_or (λ (e : ℕ). Answering z back) o Gone)) route in
-    let walked = walks-over (has_asked w) tree sends.fits src d lt ds walk.goes h r rs end (loses_answer w)
-    (subst (λ (m : Lone). Comes m end (loses_answer w)) (sym at_last) comes) in
-    let it = requests_enter w x (walker src (hops_over w.tree.links (d ∷ ds) ++ h ∷ r ∷ rs)) d end (loses_answer w) walk.first walked in
+    let passed = passed_over w.tree src d ds w.nodes in
     record {
-      journal = it.journal;
-      ends = record {
-        goes = it.goes;
-        over = ends-of w x d ds src hops;
-      };
-      loss = it.loss;
+      moves = moves;
+      home = last-route w.tree settled.queues.tree src l arrived.link passed arrived.long arrived.place;
+      others = (are-entered (end_of w.tree.links l) src (end_port w.tree.links l) passed).elsewhere;
     }
 
 pub probes-back : ProbesComeBack
 probes-back w x d ds src settled sends walk =
-    walk-back w x d ds src inquiry collector [] (information w.tree (last_of d ds) ∷ []) settled sends walk
-    (inquiry-returns (record (has_asked w) { nodes = passed_over w.tree src d ds w.nodes }) settled.queues.tree (last_of d ds)
-    (last-there w.tree d (links_leave_by_ports w.tree d x 0 walk.first).2 ds walk.goes) src)
+    let arrived = walkers-arrive w x d ds src settled sends walk in
+    let u : State = record (has_asked w) { nodes = passed_over w.tree src d ds w.nodes } in
+    let back = information w.tree (last_of d ds) ∷ [] in
+    walkers-back w x d ds src inquiry (collector ∷ []) (left_by w.tree src d ds w.nodes) back settled sends walk
+    (probe-sent w d ds src (inquiry ∷ collector ∷ []) back settled arrived (inquiry-returns u settled.queues.tree (last_of d ds) arrived.link src))
 
 pub bare-back : BarePortsSendBack
 bare-back w x d ds src port settled sends walk there small other bare =
-    walk-back w x d ds src (onward port) inquiry (collector ∷ []) (inquiry ∷ collector ∷ []) settled sends walk
-    (onward-returns (record (has_asked w) { nodes = passed_over w.tree src d ds w.nodes }) settled.queues.tree sends.fits (last_of d ds)
-    (last-there w.tree d (links_leave_by_ports w.tree d x 0 walk.first).2 ds walk.goes) src port inquiry (collector ∷ []) there small other bare)
+    let arrived = walkers-arrive w x d ds src settled sends walk in
+    let u : State = record (has_asked w) { nodes = passed_over w.tree src d ds w.nodes } in
+    let back = inquiry ∷ collector ∷ [] in
+    walkers-back w x d ds src (onward port) back (left_by w.tree src d ds w.nodes) back settled sends walk
+    (probe-sent w d ds src (onward port ∷ back) back settled arrived
+    (onward-returns u settled.queues.tree sends.fits (last_of d ds) arrived.link src port inquiry (collector ∷ []) there small other bare))

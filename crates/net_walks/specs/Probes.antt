@@ -8,7 +8,7 @@ use Rattle.net_topology.specs.Tree.{FitsPlan, IsTree, port_count}
 use Rattle.net_topology.specs.declared.plan.Plan.{Plan}
 use Rattle.net_machine.specs.declared.event.Event.{Event}
 use Rattle.net_machine.specs.Nodes.{is_host_at, own_epid}
-use Rattle.net_machine.specs.State.{State}
+use Rattle.net_machine.specs.State.{Node, State}
 use Rattle.net_lone.specs.Control.{has_answered, has_asked, loses_answer, loses_request}
 use Rattle.net_lone.specs.Runs.{Ends, has_loss}
 use Rattle.net_lone.specs.Stages.{Answered, Asking, Gone, IsSettled, Lone, lone}
@@ -33,12 +33,16 @@ abbrev pub WaysAreWalks : Type 0
 WaysAreWalks = (tree : Plan) (x z d : ℕ) (ds : List ℕ) → IsTree tree → FitsPlan tree → is_host_at tree x ≡ true → IsWay tree.links x z (d ∷ ds)
     → IsWalk tree x d ds
 
--- What becomes of a walker that comes back from the end of its way with these hops. It is lost, or what comes back is,
--- or that comes to the host; and on the way its entries are left.
-abbrev pub walk_end : State → ℕ → ℕ → List ℕ → Epid → List (List MgmtOp) → Lone
-walk_end w x d ds src hops =
+-- What becomes of a walker that leaves these nodes and comes back with these hops. It is lost, or what comes back is, or
+-- that comes to the host.
+abbrev pub return_end : State → ℕ → List Node → Epid → List (List MgmtOp) → Lone
+return_end w x left src hops =
     if loses_request w then lone (has_asked w) Gone
-    else lone (has_answered (record (has_asked w) { nodes = left_by w.tree src d ds w.nodes })) (if loses_answer w then Gone else Answered x (returner src hops))
+    else lone (has_answered (record (has_asked w) { nodes = left })) (if loses_answer w then Gone else Answered x (returner src hops))
+
+-- and of one that leaves its entries on the way alone
+abbrev pub walk_end : State → ℕ → ℕ → List ℕ → Epid → List (List MgmtOp) → Lone
+walk_end w x d ds src hops = return_end w x (left_by w.tree src d ds w.nodes) src hops
 
 -- a journal of a request of host x to this end, which has a loss exactly where the request or its answer is lost
 pub record WalkEnds (w : State) (x : ℕ) (p : Packet) (end : Lone) : Type 0 where

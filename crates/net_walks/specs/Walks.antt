@@ -8,15 +8,15 @@ use Rattle.chdr_words.specs.declared.management.Management.{Management}
 use Rattle.chdr_words.specs.declared.management.MgmtOp.{MgmtOp}
 use Rattle.chdr_words.specs.declared.operation.Operation.TheVariants as op
 use Rattle.net_nodes.specs.Perform.{info_answer}
-use Rattle.net_nodes.specs.Table.{with_exit}
 use Rattle.net_topology.specs.Links.{end_of, end_port, start_port}
 use Rattle.net_topology.specs.declared.plan.LinkPlan.{LinkPlan}
 use Rattle.net_topology.specs.declared.plan.Plan.{Plan}
 use Rattle.net_machine.specs.Nodes.{site_at}
-use Rattle.net_machine.specs.Passing.{message, with_table}
+use Rattle.net_machine.specs.Passing.{message}
 use Rattle.net_machine.specs.Plans.{no_epid}
 use Rattle.net_machine.specs.Queues.{back_vc, forward_vc}
-use Rattle.net_machine.specs.State.{Node, node_in}
+use Rattle.net_machine.specs.State.{Node}
+use Rattle.net_walks.specs.Entries.{entered}
 
 -- ---- hops
 
@@ -55,8 +55,7 @@ returner src hops = message back_vc src (body.Management (walk src hops))
 
 -- the node at which a link ends has its port of arrival as the entry of an EPID
 abbrev pub advertised_at : Plan → Epid → ℕ → List Node → List Node
-advertised_at tree epid d nodes = let x = end_of tree.links d in
-    with_table nodes x (with_exit (node_in nodes x).table epid (end_port tree.links d))
+advertised_at tree epid d nodes = entered (end_of tree.links d) epid (end_port tree.links d) nodes
 
 -- what the node at which a link ends answers an inquiry
 abbrev pub information : Plan → ℕ → List MgmtOp

@@ -1,12 +1,13 @@
 -- The ways of walkers over directed links.
-use Rattle.std.specs.Prelude.{◌≡◌, ◌≢◌, ℕ, ◌*◌, ◌<◌, ◌^◌, true, List, [], ◌∷◌, length, Some}
+use Rattle.std.specs.Prelude.{◌≡◌, ◌≢◌, ℕ, ◌*◌, ◌<◌, ◌≤◌, ◌^◌, true, List, [], ◌∷◌, length, map, Some}
 use Rattle.chdr_words.specs.declared.epid.Epid.{Epid}
-use Rattle.net_topology.specs.Links.{end_of, end_port, link_at, start_port}
-use Rattle.net_topology.specs.Tree.{port_count}
+use Rattle.net_topology.specs.Links.{IsWay, end_of, end_port, link_at, start_port}
+use Rattle.net_topology.specs.Tree.{FitsPlan, IsTree, port_count}
+use Rattle.net_topology.specs.declared.plan.LinkPlan.{LinkPlan}
 use Rattle.net_topology.specs.declared.plan.Plan.{Plan}
 use Rattle.net_machine.specs.Nodes.{is_switch}
 use Rattle.net_machine.specs.State.{Node}
-use Rattle.net_walks.specs.Walks.{advertised_at}
+use Rattle.net_walks.specs.Walks.{advertised_at, hops_over, onward}
 
 -- a packet that came over d to a crossbar or an adapter may leave it over e
 pub record IsNextLink (tree : Plan) (d e : ℕ) : Type 0 where
@@ -35,3 +36,18 @@ passed_over tree src d (e ∷ ds) nodes = passed_over tree src e ds (advertised_
 -- and when it has
 abbrev pub left_by : Plan → Epid → ℕ → List ℕ → List Node → List Node
 left_by tree src d ds nodes = advertised_at tree src (last_of d ds) (passed_over tree src d ds nodes)
+
+-- Behind a link of a way lies the next one.
+abbrev pub WaysGoOver : Type 0
+WaysGoOver = (tree : Plan) (y z d e : ℕ) (ds : List ℕ) → IsTree tree → FitsPlan tree → IsWay tree.links y z (d ∷ e ∷ ds) → IsNextLink tree d e
+
+-- So a way has no more links than a packet may have hops, and neither has any list of links like this.
+abbrev pub WaysAreShort : Type 0
+WaysAreShort = (tree : Plan) (y z : ℕ) (ds : List ℕ) → IsTree tree → FitsPlan tree → IsWay tree.links y z ds → length ds ≤ 257
+
+abbrev pub LinksOverAreFew : Type 0
+LinksOverAreFew = (tree : Plan) (d : ℕ) (ds : List ℕ) → IsTree tree → FitsPlan tree → d < 2 * length tree.links → GoesOver tree d ds → length (d ∷ ds) ≤ 257
+
+-- A walker leaves nodes by the ports at which the links behind the first one start.
+abbrev pub HopsLeaveByPorts : Type 0
+HopsLeaveByPorts = (links : List LinkPlan) (d : ℕ) (ds : List ℕ) → hops_over links (d ∷ ds) ≡ map onward (map (start_port links) ds)

@@ -5,4 +5,7 @@
 
 mod law;
 
-pub use law::{walkers_come_back, ways_are_walks};
+pub use law::{
+    entries_are_entered, links_lead_back, plans_tell_nodes, probes_come_back, walkers_come_back,
+    ways_are_walks,
+};
