@@ -1,63 +1,40 @@
--- What one new entry of a node's table changes in what the tables of all nodes tell.
-use Rattle.std.proofs.Common.{◌≡◌, ◌≢◌, ◌==◌, ℕ, ◌<◌, inl, inr, Bool, true, false, List, [], ◌∷◌, length, refl, sym, ◌∙◌, ap, subst, set, eq-eqb, if◌then◌else◌}
-use Rattle.std.specs.Prelude.{Some, ◌&&◌, ◌||◌}
+-- What new entries of a node's table change in what the tables of all nodes tell.
+use Rattle.std.proofs.Common.{◌≡◌, ◌≢◌, ◌==◌, ℕ, ◌<◌, inl, inr, Bool, true, false, List, length, refl, sym, ◌∙◌, ap, subst, set, eq-eqb, if◌then◌else◌}
+use Rattle.std.specs.Prelude.{Some, ◌&&◌}
 use Rattle.std.proofs.lemmas.Bool.{cases_eq, eqb-true, ne_eqb}
-use Rattle.std.proofs.lemmas.List.{get_or-set_other, get_or-set_same, length-set, set-set}
-use Rattle.rf_base.proofs.Places.{one-set}
+use Rattle.std.proofs.lemmas.List.{get_or-set_same, set-set}
 use Rattle.chdr_words.specs.declared.epid.Epid.{Epid}
 use Rattle.net_nodes.specs.Table.{exit_of, has_place, with_exit}
-use Rattle.net_nodes.specs.declared.table.Place.{Place}
-use Rattle.net_nodes.proofs.Laws.{tables_are_maps}
 use Rattle.net_topology.specs.declared.plan.Plan.{Plan}
 use Rattle.net_machine.specs.Nodes.{exits_of}
-use Rattle.net_machine.specs.Passing.{with_table}
 use Rattle.net_machine.specs.State.{Node, blank, node_in}
 use Rattle.net_lone.specs.Stages.{HavePlaces}
+use Rattle.net_walks.specs.Entries.{entered}
+use Rattle.net_walks.proofs.Laws.{entries_are_entered}
 use Rattle.net_writes.specs.Crossings.{Crossing, crossed_at}
 
 pub epids-same : (a b : Epid) → a.0 ≡ b.0 → a ≡ b
 epids-same a b is = λ i. record { 0 = is i }
 
--- node z has a port as the entry of an EPID
-abbrev pub entered : ℕ → Epid → ℕ → List Node → List Node
-entered z epid port nodes = with_table nodes z (with_exit (node_in nodes z).table epid port)
-
 pub entered-long : (z : ℕ) (epid : Epid) (port : ℕ) (nodes : List Node) → length (entered z epid port nodes) ≡ length nodes
-entered-long z epid port nodes = length-set nodes z _
-
--- tables keep their places
-exit-places : (table : List Place) (epid other : Epid) (port : ℕ) → has_place (with_exit table epid port) other ≡ has_place table other
-exit-places [] epid other port = refl
-exit-places (place ∷ places) epid other port = by_test (exit-places places epid other port) (place.epid.0 == epid.0)
-  where
-    by_test : has_place (with_exit places epid port) other ≡ has_place places other →
-        (b : Bool) → has_place (if b then record { epid = place.epid; exit = Some port } ∷ places else place ∷ with_exit places epid port) other
-        ≡ has_place (place ∷ places) other
-    by_test rest true = refl
-    by_test rest false = ap (λ b. (place.epid.0 == other.0) || b) rest
+entered-long z epid port nodes = (entries_are_entered z epid port nodes).long
 
 pub entered-place : (z : ℕ) (epid : Epid) (port : ℕ) (nodes : List Node) (other : Epid) (y : ℕ) →
     has_place (node_in (entered z epid port nodes) y).table other ≡ has_place (node_in nodes y).table other
-entered-place z epid port nodes other =
-    one-set {B = Node} (λ y m n. has_place m.table other ≡ has_place n.table other) nodes nodes blank blank
-    (record (node_in nodes z) { table = with_exit (node_in nodes z).table epid port }) z
-    (λ y. refl) (exit-places (node_in nodes z).table epid other port)
+entered-place z epid port nodes other y = (entries_are_entered z epid port nodes).places y other
 
 pub entered-places : (tree : Plan) (z : ℕ) (epid : Epid) (port : ℕ) (nodes : List Node) → HavePlaces tree nodes → HavePlaces tree (entered z epid port nodes)
 entered-places tree z epid port nodes have x y other switch is = entered-place z epid port nodes other x ∙ have x y other switch is
 
 -- other nodes are as they were
 pub entered-elsewhere : (z : ℕ) (epid : Epid) (port : ℕ) (nodes : List Node) (y : ℕ) → y ≢ z → node_in (entered z epid port nodes) y ≡ node_in nodes y
-entered-elsewhere z epid port nodes y other = get_or-set_other nodes z y _ blank other
+entered-elsewhere z epid port nodes = (entries_are_entered z epid port nodes).elsewhere
 
 -- the entries of the node
 entered-at : (z : ℕ) (epid : Epid) (port : ℕ) (nodes : List Node) → z < length nodes → (other : Epid) →
     exits_of (entered z epid port nodes) z other
     ≡ (if other.0 == epid.0 && has_place (node_in nodes z).table epid then Some port else exits_of nodes z other)
-entered-at z epid port nodes lt other =
-    let table = (node_in nodes z).table in
-    let n : Node = record (node_in nodes z) { table = with_exit table epid port } in
-    ap (λ (m : Node). exit_of m.table other) (get_or-set_same nodes z n blank lt) ∙ tables_are_maps table epid other port
+entered-at z epid port nodes = (entries_are_entered z epid port nodes).here
 
 -- it has the new one
 pub entered-here : (z : ℕ) (epid : Epid) (port : ℕ) (nodes : List Node) → z < length nodes → has_place (node_in nodes z).table epid ≡ true →

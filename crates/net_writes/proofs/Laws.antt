@@ -4,8 +4,7 @@ use Rattle.net_writes.specs.Talks.{WriteTalks}
 use Rattle.net_writes.specs.Writing.{WritesComeBack}
 use Rattle.net_writes.proofs.Leading.{whole-routes}
 use Rattle.net_writes.proofs.Routes.{may-be-written, routes-written}
-use Rattle.net_writes.proofs.Talking.{write-talks}
-use Rattle.net_writes.proofs.Writing.{writes-back}
+use Rattle.net_writes.proofs.Writing.{write-talks, writes-back}
 
 pub writes_come_back : WritesComeBack
 writes_come_back = writes-back

@@ -9,8 +9,8 @@ use Rattle.net_topology.specs.Parts.{way_of}
 use Rattle.net_topology.specs.Tree.{IsTree, epid_at, node_with}
 use Rattle.net_topology.specs.declared.plan.Plan.{Plan}
 use Rattle.net_topology.proofs.Laws.{epids_name_nodes, ways_are_there, ways_lead_back, written_ways_lead}
+use Rattle.net_walks.proofs.Laws.{backs_end}
 use Rattle.net_writes.specs.Routes.{IsRouteWritten, WholeRoutesLead}
-use Rattle.net_writes.proofs.Backs.{end-back}
 use Rattle.net_writes.proofs.Routes.{node-there}
 
 module _ (tree : Plan) (exits : Exits) (a b : Epid) where
@@ -39,7 +39,7 @@ module _ (tree : Plan) (exits : Exits) (a b : Epid) where
   along-back d [] x z walk written = tt
   along-back d (e ∷ ds) x z walk written =
       let rest : IsAlong tree exits a (reversed (e ∷ ds)) = along-back e ds (end_of tree.links d) z walk.2 written.2 in
-      let starts : end_of tree.links (back_of e) ≡ end_of tree.links d = end-back tree.links e ∙ walk.2.1 in
+      let starts : end_of tree.links (back_of e) ≡ end_of tree.links d = (backs_end tree.links e).0 ∙ walk.2.1 in
       let more = along-more (reversed ds) (back_of e) (back_of d) (subst (λ (es : List ℕ). IsAlong tree exits a es) (reversed-more e ds) rest)
       (ap (λ (n : ℕ). exits n a) starts ∙ written.1) in
       subst (λ (es : List ℕ). IsAlong tree exits a es)

@@ -6,7 +6,7 @@ use Rattle.std.proofs.lemmas.Bool.{both_ways}
 use Rattle.chdr_words.specs.declared.epid.Epid.{Epid}
 use Rattle.net_topology.specs.Links.{Avoids, IsWay, end_of, end_port, start_port}
 use Rattle.net_topology.specs.Parts.{way_of}
-use Rattle.net_topology.specs.Tree.{IsTree, epid_at, epid_of, node_with, port_count}
+use Rattle.net_topology.specs.Tree.{FitsPlan, IsTree, epid_at, epid_of, node_with, port_count}
 use Rattle.net_topology.specs.declared.plan.LinkPlan.{LinkPlan}
 use Rattle.net_topology.specs.declared.plan.NodePlan.{NodePlan}
 use Rattle.net_topology.specs.declared.plan.Plan.{Plan}
@@ -16,13 +16,12 @@ use Rattle.net_machine.specs.State.{Node}
 use Rattle.net_lone.specs.Stages.{HavePlaces}
 use Rattle.net_walks.specs.Walks.{advertised_at}
 use Rattle.net_walks.specs.Ways.{last_of, left_by}
-use Rattle.net_walks.proofs.Laws.{ways_are_walks}
+use Rattle.net_walks.specs.Entries.{entered}
+use Rattle.net_walks.proofs.Laws.{backs_start, hosts_have_epids, hosts_have_no_table, ways_are_walks}
 use Rattle.net_writes.specs.Crossings.{Crossing, crossed_at, crossed_by}
 use Rattle.net_writes.specs.Routes.{IsRoute, IsRouteWritten, MayBeWritten, MayWrite, OthersStay, RoutesAreWritten, crossed_over, crossing_between, route_left}
-use Rattle.net_writes.proofs.Backs.{start_port-back}
-use Rattle.net_writes.proofs.Entries.{crossed-twice, entered, entered-here, entered-long, entered-other, entered-place, entered-places, entry-lasts}
+use Rattle.net_writes.proofs.Entries.{crossed-twice, entered-here, entered-long, entered-other, entered-place, entered-places, entry-lasts}
 use Rattle.net_writes.proofs.Ways.{IsBetween, IsHome, between, home-back, home-by, last-split, step-on, way-behind, way-ends, way-front, way-rest, way-there}
-use Rattle.net_writes.proofs.Writing.{host-ends, host-epid}
 
 -- ---- nodes and their EPIDs
 
@@ -40,7 +39,7 @@ same-node x y is = ap (λ (o : Option ℕ). unwrap_or o x) is
 -- the node of the host's EPID is the host
 host-node : (tree : Plan) (x y z : ℕ) (src a b : Epid) → IsRoute tree x src y a z b → node_with tree.nodes src ≡ Some x
 host-node tree x y z src a b route =
-    (epids_name_nodes tree route.is_tree x src).1 (host-epid tree x route.host ∙ ap (λ (e : Epid). Some e) route.own)
+    (epids_name_nodes tree route.is_tree x src).1 (hosts_have_epids tree x route.host ∙ ap (λ (e : Epid). Some e) route.own)
 
 -- so the entry for an end of the route that is the host leads home
 a-home : (tree : Plan) (x y z : ℕ) (src a b : Epid) (before : List ℕ) (d : ℕ) (ds : List ℕ) → IsRoute tree x src y a z b → IsWay tree.links y z (before ++ d ∷ ds) →
@@ -59,10 +58,10 @@ b-home tree x y z src a b before d e ds route way here mine =
 
 -- ---- a write may be done
 
-between-on : (tree : Plan) → IsTree tree → (y z : ℕ) (before : List ℕ) (d e : ℕ) (ds : List ℕ) → IsWay tree.links y z (before ++ d ∷ e ∷ ds) → IsBetween tree d e
-between-on tree is y z before d e ds way =
+between-on : (tree : Plan) → IsTree tree → FitsPlan tree → (y z : ℕ) (before : List ℕ) (d e : ℕ) (ds : List ℕ) → IsWay tree.links y z (before ++ d ∷ e ∷ ds) → IsBetween tree d e
+between-on tree is fits y z before d e ds way =
     let rest = way-rest tree y z before (d ∷ e ∷ ds) way in
-    between tree is rest.0 z d e ds (way-there tree.links y z before d (e ∷ ds) way) rest.1
+    between tree is fits rest.0 z d e ds (way-there tree.links y z before d (e ∷ ds) way) rest.1
 
 pub may-be-written : MayBeWritten
 may-be-written tree x y z src a b before d e ds route way =
@@ -76,11 +75,11 @@ may-be-written tree x y z src a b before d e ds route way =
     n = end_of links d
 
     at : IsBetween tree d e
-    at = between-on tree route.is_tree y z before d e ds way
+    at = between-on tree route.is_tree route.fits y z before d e ds way
 
     by_list : (es : List ℕ) → way_of links x n ≡ es → IsWay links x n es → MayWrite tree x src a b d e
     by_list [] is goes =
-        absurd (both_ways (is_switch tree n) (ap (λ (m : ℕ). is_switch tree m) (sym goes.0) ∙ host-ends tree x route.host) at.switch)
+        absurd (both_ways (is_switch tree n) (ap (λ (m : ℕ). is_switch tree m) (sym goes.0) ∙ hosts_have_no_table tree x route.host) at.switch)
     by_list (first ∷ rest) is goes =
         let l = last_of first rest in
         let ends : end_of links l ≡ n = way-ends links x n first rest goes in
@@ -239,7 +238,7 @@ module _ (tree : Plan) (x y z : ℕ) (src a b : Epid) (route : IsRoute tree x sr
   lasts-wrote : (before : List ℕ) (d e : ℕ) (ds : List ℕ) (nodes left : List Node) → IsWay tree.links y z (before ++ d ∷ e ∷ ds) →
       Lasts tree src a b nodes left → Lasts tree src a b nodes (wrote d e left)
   lasts-wrote before d e ds nodes left way last =
-      let at = between-on tree route.is_tree y z before d e ds way in
+      let at = between-on tree route.is_tree route.fits y z before d e ds way in
       let may = may-be-written tree x y z src a b before d e ds route way in
       subst (λ (ns : List Node). Lasts tree src a b nodes ns) (sym (wrote-by d e left may))
       (lasts-crossed tree route.is_tree x src (end_of tree.links d) may.first may.behind (way-to d e may at.here) (crossing_between tree.links a b d e) nodes left at.here last)
@@ -250,7 +249,7 @@ module _ (tree : Plan) (x y z : ℕ) (src a b : Epid) (route : IsRoute tree x sr
       exits_of left n other ≡ Some to → exits_of (route_left tree x src a b (d ∷ ds) left) n other ≡ Some to
   stays-on before d [] behind nodes left n other to way last home avoids has = has
   stays-on before d (e ∷ ds) behind nodes left n other to way last home avoids has =
-      let at = between-on tree route.is_tree y z before d e (ds ++ behind) way in
+      let at = between-on tree route.is_tree route.fits y z before d e (ds ++ behind) way in
       let may = may-be-written tree x y z src a b before d e (ds ++ behind) route way in
       let stays : exits_of (wrote d e left) n other ≡ Some to =
       ap (λ (ns : List Node). exits_of ns n other) (wrote-by d e left may)
@@ -272,7 +271,7 @@ module _ (tree : Plan) (x y z : ℕ) (src a b : Epid) (route : IsRoute tree x sr
   }
   all-written before d (e ∷ ds) behind nodes left way last =
       let n = end_of tree.links d in
-      let at = between-on tree route.is_tree y z before d e (ds ++ behind) way in
+      let at = between-on tree route.is_tree route.fits y z before d e (ds ++ behind) way in
       let may = may-be-written tree x y z src a b before d e (ds ++ behind) route way in
       let next : List Node = wrote d e left in
       let lasts_on = lasts-wrote before d e (ds ++ behind) nodes left way last in
@@ -290,7 +289,7 @@ module _ (tree : Plan) (x y z : ℕ) (src a b : Epid) (route : IsRoute tree x sr
               (λ mine. b-home tree x y z src a b before d e (ds ++ behind) route way at.here mine) avoids (ap (λ (ns : List Node). exits_of ns n b) by ∙ has.1),
           stays-on (before ++ d ∷ []) e ds behind nodes next n a (end_port tree.links d) further lasts_on
               (λ mine. a-home tree x y z src a b before d (e ∷ ds ++ behind) route way mine) avoids (ap (λ (ns : List Node). exits_of ns n a) by ∙ has.0)
-              ∙ ap (λ p. Some p) (sym (start_port-back tree.links d)),
+              ∙ ap (λ p. Some p) (sym (backs_start tree.links d).1),
           rest.written,
         );
         last = rest.last;

@@ -1,18 +1,15 @@
 -- Ways of a tree: their first parts, their last links, and the way back.
-use Rattle.std.proofs.Common.{◌≡◌, ◌≢◌, ℕ, ◌*◌, ◌<◌, true, List, [], ◌∷◌, ◌++◌, length, map, reverse, refl, sym, ◌∙◌, ap, subst, append_assoc}
-use Rattle.std.specs.Prelude.{Option, Some, unwrap_or}
-use Rattle.std.proofs.lemmas.Bool.{true_from_ne_false}
+use Rattle.std.proofs.Common.{◌≡◌, ℕ, ◌*◌, ◌<◌, true, List, [], ◌∷◌, ◌++◌, length, map, reverse, refl, sym, ◌∙◌, ap, append_assoc}
 use Rattle.std.proofs.lemmas.List.{reverse-append}
-use Rattle.net_topology.specs.Links.{Avoids, IsWay, NoneTwice, Walks, back_of, end_of, end_port, link_at, start_of, start_port}
+use Rattle.net_topology.specs.Links.{Avoids, IsWay, NoneTwice, Walks, back_of, end_of, end_port, start_of, start_port}
 use Rattle.net_topology.specs.Parts.{way_of}
-use Rattle.net_topology.specs.Tree.{IsTree, port_count}
+use Rattle.net_topology.specs.Tree.{FitsPlan, IsTree, port_count}
 use Rattle.net_topology.specs.declared.plan.LinkPlan.{LinkPlan}
 use Rattle.net_topology.specs.declared.plan.Plan.{Plan}
-use Rattle.net_topology.proofs.Laws.{links_join_ports, ports_name_links, ways_are_unique, ways_follow, ways_go_on, ways_lead_back}
+use Rattle.net_topology.proofs.Laws.{links_join_ports, ways_are_unique, ways_follow, ways_go_on, ways_lead_back}
 use Rattle.net_machine.specs.Nodes.{is_switch}
 use Rattle.net_walks.specs.Ways.{last_of}
-use Rattle.net_writes.proofs.Backs.{end_port-back, leads-back}
-use Rattle.net_writes.proofs.Writing.{one-port}
+use Rattle.net_walks.proofs.Laws.{backs_end, ways_go_over}
 
 -- ---- lists of links
 
@@ -88,12 +85,9 @@ home-back tree is x y d ds there here way before l other =
     ∙ reverse-append (back_of d ∷ []) (map back_of ds) in
     ap (λ (e : ℕ). end_port tree.links e)
     (last-same before (reverse (map back_of ds)) l (back_of d) (ways_are_unique tree is x y (before ++ l ∷ []) other ∙ back))
-    ∙ end_port-back tree.links d
+    ∙ (backs_end tree.links d).1
 
 -- ---- nodes between links
-
-same-link : (x y : ℕ) → ◌≡◌ {A = Option ℕ} (Some x) (Some y) → x ≡ y
-same-link x y is = ap (λ (o : Option ℕ). unwrap_or o x) is
 
 -- the node at which a way goes on from d over e
 pub record IsBetween (tree : Plan) (d e : ℕ) : Type 0 where
@@ -103,25 +97,16 @@ pub record IsBetween (tree : Plan) (d e : ℕ) : Type 0 where
   pub arrival : end_port tree.links d < port_count tree.nodes (end_of tree.links d)
   pub onward : start_port tree.links e < port_count tree.nodes (end_of tree.links d)
 
-pub between : (tree : Plan) → IsTree tree → (a z d e : ℕ) (ds : List ℕ) → d < 2 * length tree.links → IsWay tree.links a z (d ∷ e ∷ ds) → IsBetween tree d e
-between tree is a z d e ds lt way =
-    let links = tree.links in
-    let may = ways_follow tree a z d e ds way in
-    let joins = links_join_ports tree is e may.there in
+pub between : (tree : Plan) → IsTree tree → FitsPlan tree → (a z d e : ℕ) (ds : List ℕ) → d < 2 * length tree.links → IsWay tree.links a z (d ∷ e ∷ ds) → IsBetween tree d e
+between tree is fits a z d e ds lt way =
+    let next = ways_go_over tree a z d e ds is fits way in
     let ends = links_join_ports tree is d lt in
-    let port : start_port links e < port_count tree.nodes (end_of links d) =
-    subst (λ x. start_port links e < port_count tree.nodes x) may.starts joins.2 in
-    let link : link_at links (end_of links d) (start_port links e) ≡ Some e =
-    ap (λ x. link_at links x (start_port links e)) (sym may.starts) ∙ ports_name_links tree is e may.there in
-    let other : start_port links e ≢ end_port links d = λ same. may.onward
-    (same-link e (back_of d) (sym link ∙ ap (λ p. link_at links (end_of links d) p) same ∙ leads-back tree is d lt)) in
     record {
-      starts = may.starts;
-      switch = true_from_ne_false (is_switch tree (end_of links d)) (λ none. other
-          (one-port tree (end_of links d) (start_port links e) none port ∙ sym (one-port tree (end_of links d) (end_port links d) none ends.3)));
+      starts = (ways_follow tree a z d e ds way).starts;
+      switch = next.switch;
       here = ends.1;
       arrival = ends.3;
-      onward = port;
+      onward = next.port;
     }
 
 -- what is behind some links of a way is one

@@ -1,15 +1,14 @@
 -- What becomes of a packet that writes a node's entries.
-use Rattle.std.specs.Prelude.{◌≡◌, ℕ, ◌<◌, ◌^◌, true, List, [], ◌∷◌, if◌then◌else◌}
+use Rattle.std.specs.Prelude.{◌≡◌, ℕ, ◌<◌, ◌^◌, true, List, [], ◌∷◌}
 use Rattle.chdr_words.specs.declared.epid.Epid.{Epid}
 use Rattle.net_topology.specs.Links.{end_of, end_port}
 use Rattle.net_topology.specs.Tree.{port_count}
 use Rattle.net_topology.specs.declared.plan.Plan.{Plan}
 use Rattle.net_machine.specs.Nodes.{is_switch}
 use Rattle.net_machine.specs.State.{State}
-use Rattle.net_lone.specs.Control.{has_answered, has_asked, loses_answer, loses_request}
-use Rattle.net_lone.specs.Stages.{Answered, Gone, IsSettled, Lone, lone}
-use Rattle.net_walks.specs.Probes.{IsWalk, SendsWalkers, WalkEnds}
-use Rattle.net_walks.specs.Walks.{collector, returner}
+use Rattle.net_lone.specs.Stages.{IsSettled, Lone}
+use Rattle.net_walks.specs.Probes.{IsWalk, SendsWalkers, WalkEnds, return_end}
+use Rattle.net_walks.specs.Walks.{collector}
 use Rattle.net_walks.specs.Ways.{last_of}
 use Rattle.net_writes.specs.Crossings.{Crossing, crossed_by, write_packet}
 
@@ -25,13 +24,9 @@ pub record MayCross (tree : Plan) (src : Epid) (l : ℕ) (it : Crossing) : Type 
   pub a : IsEntry tree src l it.a it.to_a
   pub b : IsEntry tree src l it.b it.to_b
 
--- What becomes of such a packet. It is lost, or what comes back is, or that comes to the host, with one hop; and the
--- entries are written.
+-- What becomes of such a packet: unless it is lost, the entries are written and it goes back with one hop.
 abbrev pub write_end : State → ℕ → ℕ → List ℕ → Epid → Crossing → Lone
-write_end w x d ds src it =
-    if loses_request w then lone (has_asked w) Gone
-    else lone (has_answered (record (has_asked w) { nodes = crossed_by w.tree src d ds it w.nodes }))
-    (if loses_answer w then Gone else Answered x (returner src (collector ∷ [])))
+write_end w x d ds src it = return_end w x (crossed_by w.tree src d ds it w.nodes) src (collector ∷ [])
 
 -- A write at the node at the end of a way comes back, and its entries are left.
 abbrev pub WritesComeBack : Type 0
