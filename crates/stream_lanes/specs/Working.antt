@@ -1,5 +1,6 @@
 -- What the workers at the edges do in a round.
-use Rattle.std.specs.Prelude.{◌≡◌, ◌+◌, ◌<◌, ◌≤◌, ℕ, List, length, min, slice_index_or, MatchBool, OnOk}
+use Rattle.std.specs.Prelude.{◌≡◌, ◌+◌, ◌<◌, ◌≤◌, ◌||◌, ℕ, Bool, List, length, min, slice_index_or, MatchBool, Ok, OnOk}
+use Rattle.std.specs.List.{All, list_any}
 use mathlib.Core.List.{IsPrefix}
 use Rattle.stream_lanes.specs.Sides.{DrainSide, SourceSide}
 
@@ -32,3 +33,12 @@ pub record EachFills (before after : List SourceSide) : Type 0 where
 pub record EachEmpties (before after : List DrainSide) : Type 0 where
   pub count : length after ≡ length before
   pub each : (i : ℕ) (d : DrainSide) → i < length before → Empties (slice_index_or before i d) (slice_index_or after i d)
+
+-- the last round went well for each of them
+pub record AllEnded (fillers : List SourceSide) (takers : List DrainSide) : Type 0 where
+  pub sources : All (λ (x : SourceSide). x.ended ≡ Ok tt) fillers
+  pub drains : All (λ (x : DrainSide). x.ended ≡ Ok tt) takers
+
+-- one of them put or took a packet
+abbrev pub any_moved : List SourceSide → List DrainSide → Bool
+any_moved sources drains = list_any (λ (x : SourceSide). x.moved) sources || list_any (λ (x : DrainSide). x.moved) drains

@@ -1,6 +1,10 @@
-ghost use Rattle.stream_lanes.specs.Working.{EachEmpties, EachFills, Empties, Fills};
+ghost use Rattle.std.specs.Prelude.{◌≡◌, Ok, OnOk};
+ghost use Rattle.std.specs.List.{All, list_any};
+ghost use Rattle.stream_lanes.specs.Sides.{DrainSide, SourceSide};
+ghost use Rattle.stream_lanes.specs.Working.{AllEnded, EachEmpties, EachFills, Empties, Fills, any_moved};
 
 use crate::{Drain, Gate, Source};
+use rf_base::Memory;
 use std::alloc::Global;
 use std::thread;
 use std::thread::{Threads, join_mut};
@@ -27,6 +31,55 @@ impl Edges<'_> {
             self.drains.as_mut_slice(),
         );
     }
+
+    /// How the last round went: well if it went well for each of them.
+    pub fn ended(&self) -> Result<(), Memory>
+        ensures { OnOk result (AllEnded self.now.sources.items self.now.drains.items) }
+    {
+        sources_ended(&self.sources)?;
+        drains_ended(&self.drains)
+    }
+
+    /// Whether any of them put or took a packet in the last round.
+    pub fn moved(&self) -> bool
+        ensures { result ≡ any_moved self.now.sources.items self.now.drains.items }
+    {
+        any_put(&self.sources) || any_taken(&self.drains)
+    }
+}
+
+/// Whether any packet was put in the last round.
+fn any_put(sources: &[Source<'_>]) -> bool
+    ensures { result ≡ list_any (λ (x : SourceSide). x.moved) sources.now }
+{
+    sources.iter().any(|source| source.moved())
+}
+
+/// Whether any packet was taken in the last round.
+fn any_taken(drains: &[Drain<'_>]) -> bool
+    ensures { result ≡ list_any (λ (x : DrainSide). x.moved) drains.now }
+{
+    drains.iter().any(|drain| drain.moved())
+}
+
+/// How the last round went for the sources.
+fn sources_ended(sources: &[Source<'_>]) -> Result<(), Memory>
+    ensures { OnOk result (All (λ (x : SourceSide). x.ended ≡ Ok tt) sources.now) }
+{
+    for source in sources {
+        source.ended()?;
+    }
+    Ok(())
+}
+
+/// How the last round went for the drains.
+fn drains_ended(drains: &[Drain<'_>]) -> Result<(), Memory>
+    ensures { OnOk result (All (λ (x : DrainSide). x.ended ≡ Ok tt) drains.now) }
+{
+    for drain in drains {
+        drain.ended()?;
+    }
+    Ok(())
 }
 
 /// All sources and all drains at once.
