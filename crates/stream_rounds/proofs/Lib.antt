@@ -1,0 +1,11 @@
+pub mod Lists
+pub mod Presents
+pub mod Hearing
+pub mod Handing
+pub mod Plainly
+pub mod Stepping
+pub mod Journals
+pub mod Feeding
+pub mod Draining
+pub mod Going
+pub mod Turning
