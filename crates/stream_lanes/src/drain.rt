@@ -1,4 +1,4 @@
-ghost use Rattle.std.specs.Prelude.{◌≡◌, ◌<◌, ◌≤◌, [], length, OnOk};
+ghost use Rattle.std.specs.Prelude.{◌≡◌, ◌<◌, ◌≤◌, [], false, length, Ok, OnOk};
 ghost use mathlib.Core.List.{IsPrefix};
 ghost use Rattle.stream_lanes.specs.Working.{Empties};
 
@@ -46,6 +46,7 @@ impl<'a> Drain<'a> {
         requires none { rx.got ≡ [] }
         ensures stream { result.stream ≡ stream }
         ensures rx { result.rx ≡ rx.entry }
+        ensures idle { (result.moved ≡ false) × (result.ended ≡ Ok (record {})) }
     {
         Drain {
             stream,

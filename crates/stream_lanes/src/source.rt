@@ -46,6 +46,7 @@ impl<'a> Source<'a> {
         ensures stream { result.stream ≡ stream }
         ensures tx { result.tx ≡ tx.entry }
         ensures makes { result.makes ≡ makes }
+        ensures idle { (result.moved ≡ false) × (result.ended ≡ Ok (record {})) }
     {
         Source {
             stream,
