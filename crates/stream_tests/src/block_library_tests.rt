@@ -140,6 +140,30 @@ const ROWS: Rows = &[
 ];
 
 #[test]
+fn a_block_is_fed_on_vc_0_without_metadata_and_passes_an_eov_on(
+    rt: HostRuntime,
+) -> Result<(), Fail> {
+    let mut block = Block::new(rt.alloc(), BlockKind::Fifo, 4)?;
+    let mut other = packet(rt.alloc(), 4, None, &[1], false)?;
+    other.vc = 1;
+    assert!(rt; !block.takes(0, &other));
+    let mut marked = packet(rt.alloc(), 4, None, &[1], false)?;
+    marked.mdata.push(0)?;
+    assert!(rt; !block.takes(0, &marked));
+    let mut ends = packet(rt.alloc(), 4, None, &[1], false)?;
+    ends.eov = true;
+    let mut passed = false;
+    if block.takes(0, &ends) {
+        block.prepare(0, &ends)?;
+        for given in block.feed(0, ends).first.into_vec() {
+            passed = given.eov;
+        }
+    }
+    assert!(rt; passed);
+    Ok(())
+}
+
+#[test]
 fn packets_are_passed_and_samples_kept(rt: HostRuntime) -> Result<(), Fail> {
     let all = "5:0.1.2.  3.4.! 9:! 5. ";
     for item in [4, 8] {
