@@ -4,7 +4,7 @@ use Rattle.std.specs.Prelude.{Option, Some, None, Result, Ok, Err, OnOk, filter_
 use Rattle.std.specs.List.{cons_option, filter, flat_map}
 use Rattle.std.specs.Option.{option_map_or}
 use Rattle.std.proofs.lemmas.Bool.{cases_lt}
-use Rattle.std.proofs.lemmas.List.{append-nil, append_assoc, get_or_append_left, get_or_push, length_push, map-append, take-append-le, take_all, take_more}
+use Rattle.std.proofs.lemmas.List.{append-nil, append_assoc, get_or_append_left, get_or_push, length-append, length_push, map-append, take-append-le, take_all, take_more}
 use Rattle.std.proofs.lemmas.List.Concat.{flat_map-append}
 use Rattle.std.proofs.lemmas.List.Elements.{filter-append, filter_map-append}
 use Rattle.std.proofs.lemmas.List.FromFn.{filter_of_map_range_with_len_more}
@@ -14,6 +14,7 @@ use Rattle.chdr_words.specs.declared.epid.Epid.{Epid}
 use Rattle.net_topology.specs.Links.{link_at}
 use Rattle.net_topology.specs.Tree.{IsTree}
 use Rattle.net_topology.specs.declared.plan.Plan.{Plan}
+use Rattle.net_topology.proofs.Laws.{links_leave_by_ports}
 use Rattle.net_machine.specs.declared.event.Event.{Event}
 use Rattle.net_machine.specs.State.{State}
 use Rattle.fabric_net.specs.NetView.{NetSeen}
@@ -21,12 +22,14 @@ use Rattle.fabric_net.specs.Standing.{StandsFor}
 use Rattle.host_talk.specs.Settled.{IsSettledNow}
 use Rattle.walk_books.specs.declared.found.FoundNode.{FoundNode}
 use Rattle.walk_books.specs.declared.found.LostPort.{LostPort}
+use Rattle.found_nodes.specs.Found.{IsListed, no_node}
+use Rattle.found_nodes.proofs.Laws.{nodes_are_listed, parents_stay_first, places_stay}
 use Rattle.topology_walk.specs.declared.probes.Behind.{Behind}
 use Rattle.topology_walk.specs.declared.probes.Behind.TheVariants.{Node, Bare, Lost}
 use Rattle.topology_walk.specs.declared.walk.Walk.{Walk}
 use Rattle.topology_walk.specs.Nodes.{NodePort, found_over, is_arrival, port_of, ports_behind, ports_below}
 use Rattle.topology_walk.specs.Probes.{AreFirst, Probe, finding, finds_bare, is_lost, journal_of, lost_of, place_of, probed, probed_all}
-use Rattle.topology_walk.specs.Walks.{AreKnown, Desk, HasProbed, IsKnown, LeadsBehind, WalksOn, added, no_node}
+use Rattle.topology_walk.specs.Walks.{AreKnown, Desk, HasProbed, IsKnown, LeadsBehind, WalksOn, added}
 use Rattle.topology_walk.proofs.Knowing.{known-behind}
 
 -- ---- none
@@ -95,11 +98,12 @@ walks-then tree src x a b s t u one two =
 
 -- ---- one
 
-known-push : (tree : Plan) (x : ℕ) (nodes : List FoundNode) (trails : List (List ℕ)) (f : FoundNode) (trail : List ℕ) → AreKnown tree x nodes trails → IsKnown tree x f trail →
+known-push : (tree : Plan) (x : ℕ) (nodes : List FoundNode) (trails : List (List ℕ)) (f : FoundNode) (trail : List ℕ) → AreKnown tree x nodes trails → IsKnown tree x f trail → IsListed nodes f.parent →
     AreKnown tree x (nodes ++ f ∷ []) (trails ++ trail ∷ [])
-known-push tree x nodes trails f trail known one = record {
+known-push tree x nodes trails f trail known one listed = record {
   many = length_push trails trail ∙ ap (λ n. n + 1) known.many ∙ sym (length_push nodes f);
   each = λ k lt. by_order k (omega (arith, lt, length_push nodes f)) (cases_lt k (length nodes));
+  parents = parents_stay_first nodes f known.parents listed;
 }
   where
     Here : ℕ → Type 0
@@ -121,7 +125,7 @@ record Adds (tree : Plan) (x : ℕ) (walk new : Walk) (place : LostPort) (miss :
   known : AreKnown tree x new.found.nodes new.trails
 
 adds : (tree : Plan) (x : ℕ) (walk : Walk) (node port : ℕ) (trail : List ℕ) (miss : Bool) (link : Option ℕ) → AreKnown tree x walk.found.nodes walk.trails →
-    ((e : ℕ) → link ≡ Some e → IsKnown tree x (found_over tree e) trail) →
+    ((e : ℕ) → link ≡ Some e → IsKnown tree x (found_over tree e) trail × IsListed walk.found.nodes (found_over tree e).parent) →
     Adds tree x walk (added walk node port trail (if miss then Lost else option_map_or (λ d. Node (found_over tree d)) link Bare)) (record { node = node; port = port }) miss link
 adds tree x walk node port trail true link known behind = record {
   nodes = sym (append-nil walk.found.nodes);
@@ -139,7 +143,7 @@ adds tree x walk node port trail false (Some e) known behind = record {
   nodes = refl;
   bare = omega arith;
   lost = sym (append-nil walk.found.lost);
-  known = known-push tree x walk.found.nodes walk.trails (found_over tree e) trail known (behind e refl);
+  known = known-push tree x walk.found.nodes walk.trails (found_over tree e) trail known (behind e refl).0 (behind e refl).1;
 }
 
 -- the ports of lost probes, of one
@@ -151,15 +155,16 @@ lost-one probe = by_loss (is_lost probe)
     by_loss false = refl
 
 pub walks-one : (tree : Plan) → IsTree tree → (src : Epid) (x : ℕ) (walk new : Walk) (old now : NetSeen) (banks left : List (Option Registers)) (f : FoundNode) (port : ℕ) (ports : List ℕ) (behind : Behind) →
-    AreKnown tree x walk.found.nodes walk.trails → LeadsBehind tree x f port ports → HasProbed tree src x old banks f.instance port behind now left →
+    AreKnown tree x walk.found.nodes walk.trails → IsListed walk.found.nodes f.instance → LeadsBehind tree x f port ports → HasProbed tree src x old banks f.instance port behind now left →
     new ≡ added walk f.instance port ports behind →
     WalksOn tree src x (port_of f port ∷ []) (record { walk = walk; net = old; banks = banks }) (record { walk = new; net = now; banks = left })
-walks-one tree is src x walk new old now banks left f port ports behind known leads one made =
+walks-one tree is src x walk new old now banks left f port ports behind known listed leads one made =
     let probe : Probe = record { node = f.instance; port = port; journal = one.journal } in
     let link = link_at tree.links f.instance port in
     let it : Adds tree x walk new (lost_of probe) (is_lost probe) link =
     subst (λ (v : Walk). Adds tree x walk v (lost_of probe) (is_lost probe) link) (ap (added walk f.instance port ports) (sym one.tells) ∙ sym made)
-    (adds tree x walk f.instance port ports (is_lost probe) link known (λ e at. known-behind tree is x f port e ports leads at)) in
+    (adds tree x walk f.instance port ports (is_lost probe) link known
+    (λ e at. (known-behind tree is x f port e ports leads at, subst (IsListed walk.found.nodes) (sym (links_leave_by_ports tree e f.instance port at).0) listed))) in
     record {
       probes = probe ∷ [];
       places = refl;
@@ -193,6 +198,13 @@ nodes-more nodes more n lt =
     ap (flat_map ports_behind) (take-append-le (n + 1) nodes more (omega (arith, lt)) ∙ take_more nodes n no_node lt)
     ∙ flat_map-append ports_behind (take n nodes) (get_or nodes n no_node ∷ [])
     ∙ ap (λ (ps : List NodePort). flat_map ports_behind (take n nodes) ++ ps) (append-nil (ports_behind (get_or nodes n no_node)))
+
+-- a node that was found is still listed when others follow
+pub still-listed : (nodes more all : List FoundNode) (k : ℕ) → all ≡ nodes ++ more → k < length nodes → IsListed all (get_or nodes k no_node).instance
+still-listed nodes more all k is lt =
+    let y = (get_or nodes k no_node).instance in
+    let listed = nodes_are_listed nodes k lt in
+    subst (λ (ns : List FoundNode). IsListed ns y) (sym is) (omega (arith, listed, places_stay nodes more y listed, length-append nodes more))
 
 -- ---- steps of a walk
 

@@ -1,28 +1,33 @@
 -- A walk from a host.
 use Rattle.std.proofs.Common.{◌≡◌, ℕ, ◌<◌, Bool, true, false, List, [], ◌∷◌, length, refl, sym, ◌∙◌, ap, subst, arith, get_or, if◌then◌else◌}
-use Rattle.std.specs.Prelude.{Option, Some, None, IsSome, filter_map, is_some, unwrap_or}
+use Rattle.std.specs.Prelude.{Option, Some, None, filter_map, is_some, unwrap_or}
 use Rattle.std.specs.List.{flat_map}
 use Rattle.std.specs.Option.{option_and_then, option_map_or}
 use Rattle.block_registers.specs.Registers.{Registers}
 use Rattle.chdr_words.specs.declared.epid.Epid.{Epid}
 use Rattle.chdr_words.specs.declared.node_info.NodeKind.TheVariants as kinds
 use Rattle.net_topology.specs.Links.{link_at}
-use Rattle.net_topology.specs.Tree.{IsTree, node_with, ports_of}
+use Rattle.net_topology.specs.Tree.{FitsPlan, IsTree, node_with, ports_of}
 use Rattle.net_topology.specs.declared.plan.NodePlan.{NodePlan}
 use Rattle.net_topology.specs.declared.plan.NodePlan.TheVariants.{Crossbar, Adapter, Host, Endpoint}
 use Rattle.net_topology.specs.declared.plan.Plan.{Plan}
-use Rattle.net_topology.proofs.Laws.{epids_name_nodes, links_join_ports, links_leave_by_ports}
+use Rattle.net_topology.proofs.Laws.{epids_name_nodes}
 use Rattle.net_machine.specs.Nodes.{host_at, host_with, is_host, is_host_at, own_epid, planned}
 use Rattle.net_machine.specs.Plans.{no_epid}
 use Rattle.fabric_net.specs.NetView.{NetSeen}
+use Rattle.found_nodes.specs.Found.{AreFound, no_node}
 use Rattle.topology_walk.specs.declared.walk.Walk.{Walk}
 use Rattle.topology_walk.specs.Discovery.{HasWalked, IsDiscoveredFrom, StandsAlone}
 use Rattle.topology_walk.specs.Nodes.{first_found, kind_of, ports_behind}
 use Rattle.topology_walk.specs.Probes.{IsFoundBy, finding}
-use Rattle.topology_walk.specs.Walks.{AreKnown, IsKnown, IsSource, WalksOn, no_node, walk_from}
+use Rattle.topology_walk.specs.Walks.{AreKnown, IsKnown, IsSource, WalksOn, walk_from}
+use Rattle.topology_walk.specs.Whole.{AreAllNodes}
 use Rattle.topology_walk.proofs.Agreeing.{found-of}
-use Rattle.topology_walk.proofs.Asking.{held}
-use Rattle.topology_walk.proofs.Finding.{known-all}
+use Rattle.topology_walk.proofs.Alone.{alone-of}
+use Rattle.topology_walk.proofs.Belonging.{alone-found, are-found}
+use Rattle.topology_walk.proofs.Finding.{Known, known-all}
+use Rattle.topology_walk.proofs.Knowing.{host-there}
+use Rattle.topology_walk.proofs.Whole.{whole-tree}
 use Rattle.walk_books.specs.declared.found.Found.{Found}
 use Rattle.walk_books.specs.declared.found.FoundNode.{FoundNode}
 
@@ -96,6 +101,7 @@ known-first tree src x has is host = record {
   each = λ k lt.
       let none : k ≡ 0 = omega (arith, lt) in
       subst (λ n. IsKnown tree x (get_or (walk_from x src).found.nodes n no_node) (get_or (walk_from x src).trails n [])) (sym none) first;
+  parents = λ k some lt. absurd (omega (arith, some, lt));
 }
   where
     first : IsKnown tree x (get_or (walk_from x src).found.nodes 0 no_node) []
@@ -108,11 +114,8 @@ known-first tree src x has is host = record {
 
 -- ---- the walk
 
-host-there : (tree : Plan) (x : ℕ) → IsTree tree → IsSome (link_at tree.links x 0) → x < length tree.nodes
-host-there tree x is linked =
-    let link = held (link_at tree.links x 0) linked in
-    let leaves = links_leave_by_ports tree link.0 x 0 link.1 in
-    subst (λ y. y < length tree.nodes) leaves.0 (links_join_ports tree is link.0 leaves.2).0
+known-of : (tree : Plan) (x : ℕ) (nodes : List FoundNode) (trails : List (List ℕ)) → AreKnown tree x nodes trails → (k : ℕ) → k < length nodes → Known tree x (get_or nodes k no_node)
+known-of tree x nodes trails known k lt = let one = known.each k lt in (one.way, one.is, one.node)
 
 pub has-walked : (old now : NetSeen) (banks left : List (Option Registers)) (src : Epid) (x : ℕ) (walk : Walk) → IsTree old.present.tree → IsHost old.present.tree src x true →
     WalksOn old.present.tree src x (flat_map ports_behind walk.found.nodes) (record { walk = walk_from x src; net = old; banks = banks }) (record { walk = walk; net = now; banks = left }) →
@@ -128,8 +131,8 @@ has-walked old now banks left src x walk is host walks =
     record {
       probes = walks.probes;
       finds = finds;
-      of = found-of tree is x (host-there tree x is host.linked) walks.probes walk.found finds
-          (known-all tree x walk.found.nodes (λ k lt. let one = walks.known.each k lt in (one.way, one.is, one.node)));
+      of = found-of tree is x (host-there tree x host.host) walks.probes walk.found finds
+          (known-all tree x walk.found.nodes (known-of tree x walk.found.nodes walk.trails walks.known));
       written = walks.written;
       each = walks.each;
       settled = walks.settled;
@@ -154,3 +157,37 @@ alone old banks src x found is at made =
       kept = refl;
     } in
     subst (λ (o : Option (ℕ × Bool)). IsDiscoveredFrom o old banks src found old banks) (sym at) it
+
+-- ---- the nodes
+
+none-linked : (o : Option ℕ) → is_some o ≡ false → o ≡ None
+none-linked None is = refl
+none-linked (Some d) is = let z : ◌≡◌ {A = Bool} true false = is in absurd cc
+
+pub walked-found : (old now : NetSeen) (banks left : List (Option Registers)) (src : Epid) (x : ℕ) (walk : Walk) → IsTree old.present.tree → IsHost old.present.tree src x true →
+    WalksOn old.present.tree src x (flat_map ports_behind walk.found.nodes) (record { walk = walk_from x src; net = old; banks = banks }) (record { walk = walk; net = now; banks = left }) →
+    AreFound old.present.tree walk.found.nodes
+walked-found old now banks left src x walk is host walks =
+    let tree = old.present.tree in
+    are-found tree x walks.probes walk.found.nodes
+    (walks.nodes ∙ ap (λ (f : FoundNode). f ∷ filter_map (finding tree) walks.probes) (first-is tree src x true is host))
+    walks.known.parents (known-of tree x walk.found.nodes walk.trails walks.known)
+
+pub host-found : (tree : Plan) (src : Epid) (x : ℕ) (found : Found) → IsTree tree → host_with tree src ≡ Some (x, false) → found ≡ record (walk_from x src).found { bare = 1 } → AreFound tree found.nodes
+host-found tree src x found is at made =
+    alone-found tree x found.nodes
+    (ap (λ (f : Found). f.nodes) made ∙ ap (λ (f : FoundNode). f ∷ []) (first-is tree src x false is (host-is tree src x false at)))
+
+pub walked-whole : (old now : NetSeen) (banks left : List (Option Registers)) (src : Epid) (x : ℕ) (walk : Walk) → IsTree old.present.tree → IsHost old.present.tree src x true →
+    WalksOn old.present.tree src x (flat_map ports_behind walk.found.nodes) (record { walk = walk_from x src; net = old; banks = banks }) (record { walk = walk; net = now; banks = left }) →
+    FitsPlan old.present.tree → walk.found.lost ≡ [] → AreAllNodes old.present.tree walk.found.nodes
+walked-whole old now banks left src x walk is host walks fits none =
+    whole-tree old.present.tree x walk.found is fits host.host (has-walked old now banks left src x walk is host walks).of none
+
+pub host-whole : (tree : Plan) (src : Epid) (x : ℕ) (found : Found) → IsTree tree → host_with tree src ≡ Some (x, false) → found ≡ record (walk_from x src).found { bare = 1 } →
+    FitsPlan tree → found.lost ≡ [] → AreAllNodes tree found.nodes
+host-whole tree src x found is at made fits none =
+    let host = host-is tree src x false at in
+    whole-tree tree x found is fits host.host
+    (alone-of tree x (sym (host-ports (planned tree x) host.host)) (none-linked (link_at tree.links x 0) host.linked) found
+    (ap (λ (f : Found). f.nodes) made ∙ ap (λ (f : FoundNode). f ∷ []) (first-is tree src x false is host)) (ap (λ (f : Found). f.bare) made) none) none

@@ -12,7 +12,8 @@ use Rattle.net_topology.proofs.Laws.{links_join_ports, links_leave_by_ports, wal
 use Rattle.net_walks.specs.Ways.{last_of}
 use Rattle.topology_walk.specs.Nodes.{NodePort, first_found, found_over, is_arrival, port_of, ports_behind}
 use Rattle.topology_walk.specs.Probes.{Probe, finding, is_lost, place_of}
-use Rattle.topology_walk.specs.Walks.{found_along, no_node}
+use Rattle.found_nodes.specs.Found.{no_node}
+use Rattle.topology_walk.specs.Walks.{found_along}
 use Rattle.topology_walk.proofs.Counting.{one_if, tally, tally-filter, tally-flat, tally-map, tally-numbers}
 use Rattle.topology_walk.proofs.Knowing.{last-ends, last-there, no-self}
 use Rattle.walk_books.specs.declared.found.FoundNode.{FoundNode}
@@ -20,7 +21,7 @@ use Rattle.walk_books.specs.declared.found.FoundNode.{FoundNode}
 -- ---- the way to the node before
 
 -- a way without its last link
-abbrev front : ℕ → List ℕ → List ℕ
+abbrev pub front : ℕ → List ℕ → List ℕ
 front d [] = []
 front d (e ∷ ds) = d ∷ front e ds
 
@@ -33,11 +34,11 @@ front-never d [] never = tt
 front-never d (e ∷ []) never = tt
 front-never d (e ∷ f ∷ ds) never = (never.0, front-never e (f ∷ ds) never.1)
 
-front-long : (d : ℕ) (ds : List ℕ) → length (front d ds) ≡ length ds
+pub front-long : (d : ℕ) (ds : List ℕ) → length (front d ds) ≡ length ds
 front-long d [] = refl
 front-long d (e ∷ ds) = ap (λ n. suc n) (front-long e ds)
 
-front-way : (tree : Plan) → IsTree tree → (x y d : ℕ) (ds : List ℕ) → IsWay tree.links x y (d ∷ ds) → IsWay tree.links x (start_of tree.links (last_of d ds)) (front d ds)
+pub front-way : (tree : Plan) → IsTree tree → (x y d : ℕ) (ds : List ℕ) → IsWay tree.links x y (d ∷ ds) → IsWay tree.links x (start_of tree.links (last_of d ds)) (front d ds)
 front-way tree is x y d ds way =
     walks_are_ways tree is x (start_of tree.links (last_of d ds)) (front d ds) (front-walks tree.links (length tree.links) x y d ds way.0)
     (front-never d ds (ways_never_turn tree x y (d ∷ ds) way))
@@ -45,7 +46,7 @@ front-way tree is x y d ds way =
 -- ---- tests
 
 -- a found node is this one
-abbrev is_node : ℕ → FoundNode → Bool
+abbrev pub is_node : ℕ → FoundNode → Bool
 is_node y f = f.instance == y
 
 -- a port is this one
@@ -79,12 +80,12 @@ known-all tree x [] each = tt
 known-all tree x (f ∷ nodes) each = (each 0 (omega arith), known-all tree x nodes (λ k lt. each (suc k) (omega (arith, lt))))
 
 -- what a probe finds is behind its port
-record Finds (tree : Plan) (probe : Probe) (f : FoundNode) : Type 0 where
-  link : ℕ
-  at : link_at tree.links probe.node probe.port ≡ Some link
-  over : f ≡ found_over tree link
+pub record Finds (tree : Plan) (probe : Probe) (f : FoundNode) : Type 0 where
+  pub link : ℕ
+  pub at : link_at tree.links probe.node probe.port ≡ Some link
+  pub over : f ≡ found_over tree link
 
-finds-of : (tree : Plan) (probe : Probe) (f : FoundNode) → finding tree probe ≡ Some f → Finds tree probe f
+pub finds-of : (tree : Plan) (probe : Probe) (f : FoundNode) → finding tree probe ≡ Some f → Finds tree probe f
 finds-of tree probe f is = by_loss (is_lost probe) (link_at tree.links probe.node probe.port) refl is
   where
     by_loss : (b : Bool) (o : Option ℕ) → link_at tree.links probe.node probe.port ≡ o → (if b then None else option_map (found_over tree) o) ≡ Some f → Finds tree probe f
@@ -209,7 +210,7 @@ not-host tree is x y d ds way same =
     let z : ◌≡◌ {A = List ℕ} [] (d ∷ ds) = same-way tree is x y [] (d ∷ ds) (same, (tt, tt)) way in
     absurd cc
 
-node-once : (tree : Plan) → IsTree tree → (x : ℕ) (probes : List Probe) (nodes : List FoundNode) → Walked tree x probes nodes →
+pub node-once : (tree : Plan) → IsTree tree → (x : ℕ) (probes : List Probe) (nodes : List FoundNode) → Walked tree x probes nodes →
     (n y : ℕ) (way : List ℕ) → IsWay tree.links x y way → length way ≤ n → tally (is_node y) nodes ≤ 1
 node-once tree is x probes nodes walked n y [] way le =
     let all = found-count tree x y probes nodes walked in
@@ -239,7 +240,7 @@ known-there tree is x f there known = by_way known.0 known.1
         let n = length tree.links in
         subst (λ y. y < length tree.nodes) (last-ends tree.links n x f.instance d ds way.0) (links_join_ports tree is l (last-there tree.links n x f.instance d ds way.0)).1
 
-past-unfound : (tree : Plan) → IsTree tree → (x y : ℕ) → x < length tree.nodes → length tree.nodes ≤ y → (nodes : List FoundNode) → AllByRecursion (Known tree x) nodes → tally (is_node y) nodes ≡ 0
+pub past-unfound : (tree : Plan) → IsTree tree → (x y : ℕ) → x < length tree.nodes → length tree.nodes ≤ y → (nodes : List FoundNode) → AllByRecursion (Known tree x) nodes → tally (is_node y) nodes ≡ 0
 past-unfound tree is x y there past [] known = refl
 past-unfound tree is x y there past (f ∷ nodes) known =
     let rest = past-unfound tree is x y there past nodes known.1 in

@@ -1,10 +1,11 @@
 -- The ways to found nodes, and to what is behind their ports.
-use Rattle.std.proofs.Common.{◌≡◌, ◌≢◌, ℕ, ◌+◌, ◌*◌, ◌/◌, ◌%◌, ◌<◌, ◌≤◌, Bool, true, false, List, [], ◌∷◌, ◌++◌, length, map, refl, sym, ◌∙◌, ap, subst, arith, eq-eqb, zero, suc, if◌then◌else◌}
+use Rattle.std.proofs.Common.{◌≡◌, ◌≢◌, ℕ, ◌+◌, ◌*◌, ◌/◌, ◌%◌, ◌<◌, ◌≤◌, ◌⊎◌, inl, inr, Bool, true, false, List, [], ◌∷◌, ◌++◌, length, map, refl, sym, ◌∙◌, ap, subst, arith, eq-eqb, zero, suc, if◌then◌else◌}
 use Rattle.std.specs.Prelude.{Option, Some, None, All, ◌==◌, ◌&&◌, not, slice_get, unwrap_or}
 use Rattle.std.specs.List.{AllByRecursion}
 use Rattle.std.specs.Option.{option_and_then, option_map_or}
-use Rattle.std.proofs.lemmas.Bool.{both_ways, ne_eqb}
+use Rattle.std.proofs.lemmas.Bool.{both_ways, cases_lt, ne_eqb}
 use Rattle.std.proofs.lemmas.List.{map-append}
+use Rattle.std.proofs.lemmas.Option.{slice_get_past}
 use Rattle.chdr_words.specs.declared.management.MgmtOp.{MgmtOp}
 use Rattle.net_topology.specs.Links.{IsWay, NeverTurns, Walks, back_of, end_of, end_port, link_at, link_of, start_of, start_port}
 use Rattle.net_topology.specs.Ranks.{MayFollow, rank_of}
@@ -82,7 +83,7 @@ pub record LeadsTo (tree : Plan) (x e : ℕ) (ports : List ℕ) : Type 0 where
   pub last : last_of first rest ≡ e
   pub along : ports ≡ map (start_port tree.links) (first ∷ rest)
 
-leads-along : (tree : Plan) → IsTree tree → (x : ℕ) (f : FoundNode) (way : List ℕ) (port e : ℕ) → IsWay tree.links x f.instance way → f ≡ found_along tree x way →
+pub leads-along : (tree : Plan) → IsTree tree → (x : ℕ) (f : FoundNode) (way : List ℕ) (port e : ℕ) → IsWay tree.links x f.instance way → f ≡ found_along tree x way →
     is_arrival f port ≡ false → link_at tree.links f.instance port ≡ Some e → LeadsTo tree x e (map (start_port tree.links) way ++ port ∷ [])
 leads-along tree is x f [] port e way node further link =
     let leaves = links_leave_by_ports tree e f.instance port link in
@@ -170,6 +171,14 @@ ports-more [] port small lt = (lt, tt)
 ports-more (p ∷ ports) port small lt = (small.0, ports-more ports port small.1 lt)
 
 -- ---- hosts
+
+-- it is a node of the tree
+pub host-there : (tree : Plan) (x : ℕ) → is_host_at tree x ≡ true → x < length tree.nodes
+host-there tree x host = by_order (cases_lt x (length tree.nodes))
+  where
+    by_order : (x < length tree.nodes) ⊎ (length tree.nodes ≤ x) → x < length tree.nodes
+    by_order (inl lt) = lt
+    by_order (inr past) = let z : ◌≡◌ {A = Bool} false true = ap (λ (o : Option NodePlan). option_map_or is_host o false) (sym (slice_get_past tree.nodes x past)) ∙ host in absurd cc
 
 -- a host has one port
 pub host-port : (tree : Plan) (x port : ℕ) → is_host_at tree x ≡ true → port < port_count tree.nodes x → port ≡ 0

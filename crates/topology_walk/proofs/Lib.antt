@@ -7,4 +7,9 @@ mod Adding
 mod Counting
 mod Finding
 mod Agreeing
+mod Belonging
+mod Members
+mod Alone
+mod Whole
+pub mod Laws
 mod Discovering

@@ -4,3 +4,4 @@ pub mod Answers
 pub mod Walks
 pub mod Discovery
 pub mod Finding
+pub mod Whole

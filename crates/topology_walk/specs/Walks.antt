@@ -10,7 +10,6 @@ use Rattle.net_topology.specs.declared.plan.Plan.{Plan}
 use Rattle.net_machine.specs.declared.event.Event.{Event}
 use Rattle.net_machine.specs.Moves.{asks}
 use Rattle.net_machine.specs.Nodes.{is_host_at, own_epid}
-use Rattle.net_machine.specs.Plans.{no_epid}
 use Rattle.net_machine.specs.State.{State}
 use Rattle.net_present.specs.Present.{Present}
 use Rattle.net_lone.specs.Runs.{IsFirst}
@@ -21,6 +20,7 @@ use Rattle.host_talk.specs.Settled.{IsSettledNow}
 use Rattle.topology_walk.specs.Nodes.{NodePort, first_found, found_over, is_arrival}
 use Rattle.topology_walk.specs.Probes.{AreFirst, Probe, finding, finds_bare, is_lost, journal_of, lost_of, packet_of, place_of, probed, probed_all}
 use Rattle.walk_books.specs.declared.found.FoundNode.{FoundNode}
+use Rattle.found_nodes.specs.Found.{HaveParents, found_at}
 use Rattle.topology_walk.specs.declared.probes.Behind.{Behind}
 use Rattle.topology_walk.specs.declared.probes.Behind.TheVariants.{Node, Bare, Lost}
 use Rattle.topology_walk.specs.declared.walk.Walk.{Walk}
@@ -105,14 +105,11 @@ added walk node port trail (Node f) = record {
 added walk node port trail Bare = record walk { found = record walk.found { bare = walk.found.bare + 1 } }
 added walk node port trail Lost = record walk { found = record walk.found { lost = walk.found.lost ++ record { node = node; port = port } ∷ [] } }
 
--- what stands for a node that wasn't found
-abbrev pub no_node : FoundNode
-no_node = record { instance = 0; kind = kinds.Other 0; ports = 0; epid = no_epid; parent = 0; parent_port = 0; port = 0 }
-
--- each found node is known by its trail
+-- each found node is known by its trail, and its parent was found before it
 pub record AreKnown (tree : Plan) (x : ℕ) (nodes : List FoundNode) (trails : List (List ℕ)) : Type 0 where
   pub many : length trails ≡ length nodes
-  pub each : (k : ℕ) → k < length nodes → IsKnown tree x (slice_index_or nodes k no_node) (slice_index_or trails k [])
+  pub each : (k : ℕ) → k < length nodes → IsKnown tree x (found_at nodes k) (slice_index_or trails k [])
+  pub parents : HaveParents nodes
 
 -- from a state for which the net stood
 pub record AreProbed (tree : Plan) (src : Epid) (x : ℕ) (probes : List Probe) (new : Present) (left : List (Option Registers)) (w : State) : Type 0 where

@@ -1,7 +1,9 @@
-ghost use Rattle.std.specs.Prelude.{◌≡◌, IfOk, IsSome};
+ghost use Rattle.std.specs.Prelude.{◌≡◌, [], IfOk, IsSome, OnOk};
+ghost use Rattle.found_nodes.specs.Found.{AreFound};
 ghost use Rattle.net_machine.specs.Nodes.{host_with};
 ghost use Rattle.host_talk.specs.Settled.{IsSettledNow};
 ghost use Rattle.topology_walk.specs.Discovery.{IsDiscovered};
+ghost use Rattle.topology_walk.specs.Whole.{AreAllNodes};
 
 use crate::probes::Source;
 use crate::walk::{Walk, walk_on};
@@ -24,7 +26,11 @@ pub fn discover<B: RegisterSlots>(
 ) -> Result<Found, Memory>
     requires host { IsSome (host_with net.old.present.tree host) }
     requires settled { IsSettledNow net.old.present }
-    ensures { IfOk result (λ found. IsDiscovered net.old (B.slots banks.old) host found net.new (B.slots banks.new)) }
+    ensures found { IfOk result (λ found. AreFound net.old.present.tree found.nodes) }
+    ensures settled { OnOk result (IsSettledNow net.new.present) }
+    ensures tree { OnOk result (net.new.present.tree ≡ net.old.present.tree) }
+    ensures whole { IfOk result (λ found. found.lost ≡ [] → AreAllNodes net.old.present.tree found.nodes) }
+    ensures walked { IfOk result (λ found. IsDiscovered net.old (B.slots banks.old) host found net.new (B.slots banks.new)) }
 {
     let (node, linked) = match net.host(host) {
         Some(found) => found,

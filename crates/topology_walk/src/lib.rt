@@ -5,8 +5,10 @@
 
 mod answers;
 mod discovery;
+mod law;
 mod packets;
 mod probes;
 mod walk;
 
 pub use discovery::discover;
+pub use law::whole_trees_are_found;

@@ -1,9 +1,10 @@
 //! A walk on its way.
-ghost use Rattle.std.specs.Prelude.{◌≡◌, ◌<◌, ◌≤◌, ◌+◌, ◌^◌, [], ◌∷◌, ◌++◌, not, length, slice_index_or, IfOk, OnOk, if◌then◌else◌};
+ghost use Rattle.std.specs.Prelude.{◌≡◌, ◌<◌, ◌≤◌, ◌+◌, ◌^◌, [], ◌∷◌, ◌++◌, not, length, IfOk, OnOk, if◌then◌else◌};
 ghost use Rattle.std.specs.List.{flat_map};
+ghost use Rattle.found_nodes.specs.Found.{IsListed, found_at};
 ghost use Rattle.host_talk.specs.Settled.{IsSettledNow};
 ghost use Rattle.topology_walk.specs.Nodes.{is_arrival, port_of, ports_behind};
-ghost use Rattle.topology_walk.specs.Walks.{AreKnown, IsKnown, IsSource, WalksOn, added, no_node, walk_from};
+ghost use Rattle.topology_walk.specs.Walks.{AreKnown, IsKnown, IsSource, WalksOn, added, walk_from};
 
 use crate::probes::{Behind, Source, probe};
 use block_registers::RegisterSlots;
@@ -64,7 +65,7 @@ fn look_around<B: RegisterSlots>(
     requires there { index < length walk.old.found.nodes }
     requires few { walk.old.found.bare < 2 ^ 31 }
     ensures walks { OnOk result (WalksOn net.old.present.tree source.epid source.node
-        (ports_behind (slice_index_or walk.old.found.nodes index no_node))
+        (ports_behind (found_at walk.old.found.nodes index))
         (record { walk = walk.old; net = net.old; banks = B.slots banks.old })
         (record { walk = walk.new; net = net.new; banks = B.slots banks.new })) }
     ensures few { OnOk result (walk.new.found.bare ≤ walk.old.found.bare + 256) }
@@ -101,6 +102,7 @@ fn look_behind<B: RegisterSlots>(
     requires source { IsSource net.old.present.tree source.node source.epid }
     requires known { AreKnown net.old.present.tree source.node walk.old.found.nodes walk.old.trails }
     requires trail { IsKnown net.old.present.tree source.node node trail.now }
+    requires listed { IsListed walk.old.found.nodes node.instance }
     requires there { port < node.ports }
     requires few { walk.old.found.bare + 1 < 2 ^ 32 }
     ensures walks { OnOk result (WalksOn net.old.present.tree source.epid source.node

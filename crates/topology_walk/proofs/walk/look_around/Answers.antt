@@ -1,7 +1,8 @@
-use Rattle.std.proofs.Common.{refl, arith}
-use Rattle.std.specs.Prelude.{slice_index_or}
-use Rattle.chdr_words.specs.declared.node_info.NodeKind.TheVariants as kinds
-use Rattle.topology_walk.proofs.Adding.{walks-none, walks-port}
+use Rattle.std.proofs.Common.{List, refl, sym, subst, arith}
+use Rattle.std.specs.Prelude.{filter_map}
+use Rattle.found_nodes.specs.Found.{IsListed, found_at}
+use Rattle.topology_walk.specs.Probes.{finding}
+use Rattle.topology_walk.proofs.Adding.{still-listed, walks-none, walks-port}
 use Rattle.topology_walk.proofs.walk.look_around.Goals as goal
 use Rattle.walk_books.specs.declared.found.FoundNode.{FoundNode}
 
@@ -12,14 +13,18 @@ loop-port-init g c = record {
   few = omega arith;
 }
 
+pub look_behind-requires-clause-listed : goal.look_behind-requires-clause-listed
+look_behind-requires-clause-listed g c =
+    let walks = c.loop-port.invariant.walks in
+    subst (λ (ns : List FoundNode). IsListed c.loop-port.walk.found.nodes (found_at ns c.args.index).instance) (sym c.as_slice.ensures)
+    (still-listed c.args.walk.now.found.nodes (filter_map (finding c.args.net.now.present.tree) walks.probes) c.loop-port.walk.found.nodes c.args.index walks.nodes c.requires.there)
+
 pub loop-port-preserved : goal.loop-port-preserved
-loop-port-preserved g c =
-    let none : FoundNode = record { instance = 0; kind = kinds.Crossbar; ports = 0; epid = record { 0 = 0 }; parent = 0; parent_port = 0; port = 0 } in
-    record {
-      walks = walks-port c.args.net.now.present.tree c.args.source.epid c.args.source.node
-          (record { walk = c.args.walk.now; net = c.args.net.now; banks = g.B.RegisterSlots.slots c.args.banks.now })
-          (record { walk = c.loop-port.walk; net = c.loop-port.net; banks = g.B.RegisterSlots.slots c.loop-port.banks })
-          (record { walk = c.look_behind.new.walk; net = c.look_behind.new.net; banks = g.B.RegisterSlots.slots c.look_behind.new.banks })
-          (slice_index_or c.as_slice.result.now c.args.index none) c.loop-port.port c.loop-port.invariant.walks c.in_ok-look_behind.ensures.walks;
-      few = let more = c.in_ok-look_behind.ensures.few in omega (arith, more);
-    }
+loop-port-preserved g c = record {
+  walks = walks-port c.args.net.now.present.tree c.args.source.epid c.args.source.node
+      (record { walk = c.args.walk.now; net = c.args.net.now; banks = g.B.RegisterSlots.slots c.args.banks.now })
+      (record { walk = c.loop-port.walk; net = c.loop-port.net; banks = g.B.RegisterSlots.slots c.loop-port.banks })
+      (record { walk = c.look_behind.new.walk; net = c.look_behind.new.net; banks = g.B.RegisterSlots.slots c.look_behind.new.banks })
+      (found_at c.as_slice.result.now c.args.index) c.loop-port.port c.loop-port.invariant.walks c.in_ok-look_behind.ensures.walks;
+  few = let more = c.in_ok-look_behind.ensures.few in omega (arith, more);
+}

@@ -33,4 +33,4 @@ returns-clause-walks g c =
     } in
     on-ok c.add.result _ _ (λ made. walks-further p.tree src x s t f port further
     (walks-one p.tree (tree-of p some.0 some.1) src x c.args.walk.now c.add.new.self c.args.net.now c.probe.new.net old left f port c.in_ok-ports.ports c.in_ok-behind.behind
-    c.requires.known leads c.in_ok-behind.ensures made)) c.add.ensures
+    c.requires.known c.requires.listed leads c.in_ok-behind.ensures made)) c.add.ensures
