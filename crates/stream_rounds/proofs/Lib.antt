@@ -9,3 +9,9 @@ pub mod Feeding
 pub mod Draining
 pub mod Going
 pub mod Turning
+pub mod Blanks
+pub mod Idling
+pub mod Meeting
+pub mod Rounding
+pub mod Stilling
+pub mod Rounded

@@ -4,5 +4,6 @@ pub mod Presents
 pub mod Steps
 pub mod Between
 pub mod Turns
+pub mod Wiring
 pub mod Meeting
 pub mod Rounds

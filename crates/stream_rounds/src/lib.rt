@@ -8,8 +8,10 @@ mod events;
 mod fabric;
 mod intake;
 mod outlet;
+mod pump;
 
 pub use fabric::FabricWorker;
 pub use intake::Intake;
 pub use outlet::Outlet;
+pub use pump::Pump;
 pub use stream_lanes::{Drain, Edges, FreeGate, Gate, Source};
