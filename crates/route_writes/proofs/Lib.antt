@@ -1,0 +1,8 @@
+mod Paths
+mod Places
+mod Adding
+mod Asking
+mod Crossing
+mod Splits
+mod Along
+mod Finding

@@ -1,0 +1,5 @@
+pub mod Steps
+pub mod Packets
+pub mod Writes
+pub mod Planned
+pub mod Routing
