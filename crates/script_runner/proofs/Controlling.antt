@@ -1,11 +1,9 @@
 -- A control request of a command, in each state for which the net stands.
-use Rattle.std.proofs.Common.{◌≡◌, ◌∙◌, ℕ, ◌<◌, ◌≤◌, ◌⊎◌, inl, inr, Bool, true, false, List, Option, None, Some, refl, sym, ap, subst, arith, if◌then◌else◌}
-use Rattle.std.specs.Prelude.{IfOk, Result, Ok, Err, IsSome, is_none, is_some, unwrap_or, ◌↔◌, IsTrue, option_map, slice_get}
+use Rattle.std.proofs.Common.{◌≡◌, ◌∙◌, ℕ, inl, inr, Bool, true, false, List, Option, None, Some, refl, sym, ap, subst, arith, if◌then◌else◌}
+use Rattle.std.specs.Prelude.{IfOk, Result, Ok, Err, IsSome, is_none, is_some, unwrap_or, slice_get}
 use Rattle.std.specs.Option.{option_and_then, option_map_or}
-use Rattle.std.proofs.lemmas.Bool.{both_ways}
 use Rattle.block_registers.specs.Registers.{Registers}
 use Rattle.chdr_packets.specs.declared.packet.Body.TheVariants as body
-use Rattle.chdr_packets.specs.declared.packet.Packet.{Packet}
 use Rattle.chdr_words.specs.Control.{FitsControl, FitsCtrlOp}
 use Rattle.chdr_words.specs.declared.control.Control.{Control}
 use Rattle.chdr_words.specs.declared.control.CtrlOp.{CtrlOp}
@@ -22,7 +20,7 @@ use Rattle.net_lone.proofs.Laws.{control_talks}
 use Rattle.net_lone.specs.Control.{IsLedControl, has_answered, has_asked, loses_request}
 use Rattle.net_lone.specs.Lone.{operated}
 use Rattle.net_lone.specs.Runs.{IsFirst, has_loss}
-use Rattle.net_lone.specs.Talks.{IsTalk, control_answer, control_left}
+use Rattle.net_lone.specs.Talks.{control_left}
 use Rattle.net_machine.specs.Moves.{after_journal, answered, asks, marked}
 use Rattle.net_machine.specs.Nodes.{exits_of, host_at, host_with, is_host_at, own_epid}
 use Rattle.net_machine.specs.Passing.{message}
@@ -34,11 +32,10 @@ use Rattle.net_present.specs.Present.{Present}
 use Rattle.net_topology.proofs.Laws.{epids_name_nodes}
 use Rattle.net_topology.specs.Leads.{Leads}
 use Rattle.net_topology.specs.Links.{link_at}
-use Rattle.net_topology.specs.Tree.{IsTree, epid_at, node_with}
+use Rattle.net_topology.specs.Tree.{IsTree, node_with}
 use Rattle.net_topology.specs.declared.plan.Plan.{Plan}
 use Rattle.rf_base.specs.declared.memory.Memory.{Memory}
 use Rattle.rf_script_types.specs.Fits as script
-use Rattle.rf_script_types.specs.declared.command.ScriptCommand.{ScriptCommand}
 use Rattle.rf_script_types.specs.declared.command.ScriptCommand.TheVariants as command
 use Rattle.script_books.specs.declared.book.Book.{Book}
 use Rattle.script_books.specs.declared.book.Book.TheVariants as book
@@ -46,11 +43,10 @@ use Rattle.script_books.specs.declared.refusal.Refusal.{Refusal}
 use Rattle.script_books.specs.declared.refusal.Refusal.TheVariants as refusal
 use Rattle.stream_endpoint.specs.declared.fault.Fault.{Fault}
 use Rattle.script_worlds.specs.WorldView.{WorldSeen}
-use Rattle.script_runner.specs.Controls.{IsControlAsked, IsControlBook, IsControlCause, IsControlled, IsRouteCause, after_control, control_of, control_past, was_asked}
-use Rattle.script_runner.specs.ScriptWorlds.{ScriptWorld, banks_in, state_in}
+use Rattle.script_runner.specs.Controls.{IsControlAsked, IsControlCause, IsControlled, IsFirstRequest, IsRouteCause, control_of, control_past, was_asked}
+use Rattle.script_runner.specs.ScriptWorlds.{ScriptWorld}
 use Rattle.script_runner.specs.Standing.{HasTold, IsTold, Performs, Talks, WorldStandsFor}
-use Rattle.script_runner.specs.Talks.{OnHost, OnHostNode, OnNet, TalksOn}
-use Rattle.script_runner.proofs.Quiet.{Stays, world-stays}
+use Rattle.script_runner.specs.Talks.{OnHost, OnHostNode}
 
 -- ---- the request of a command fits
 
@@ -65,7 +61,7 @@ named-fits op.Poll is = tt
 named-fits (op.Other code) is = absurd is
 named-fits (op.User code) is = absurd is
 
-pub request-fits : (version : ℕ) (host to : Epid) (port : ℕ) (o : CtrlOp) (addr : ℕ) (words : List ℕ) (enables : ℕ) (lose : List Fault)
+request-fits : (version : ℕ) (host to : Epid) (port : ℕ) (o : CtrlOp) (addr : ℕ) (words : List ℕ) (enables : ℕ) (lose : List Fault)
     → script.FitsControl version host to port o addr words enables lose → FitsControl (control_of host port o addr words enables)
 request-fits version host to port o addr words enables lose fits = record {
   seq = omega arith;
@@ -77,16 +73,15 @@ request-fits version host to port o addr words enables lose fits = record {
   words = fits.words_fit.0;
 }
 
--- ---- why it isn't asked
+pub request-first : (version : ℕ) (host to : Epid) (port : ℕ) (o : CtrlOp) (addr : ℕ) (words : List ℕ) (enables : ℕ) (lose : List Fault)
+    → script.FitsControl version host to port o addr words enables lose → IsFirstRequest (control_of host port o addr words enables)
+request-first version host to port o addr words enables lose fits = record {
+  fits = request-fits version host to port o addr words enables lose fits;
+  first = refl;
+  asks = refl;
+}
 
--- an EPID that no host has
-pub no-host : (tree : Plan) (nodes : List Node) (host dst : Epid) → is_some (host_with tree host) ≡ false
-    → IsControlCause tree nodes host dst (Some (refusal.NoHost host))
-no-host tree nodes host dst none = by_node (host_with tree host) none
-  where
-    by_node : (o : Option (ℕ × Bool)) → is_some o ≡ false → OnHostNode o host (IsRouteCause tree nodes host dst) (Some (refusal.NoHost host))
-    by_node None is = refl
-    by_node (Some node) is = absurd cc
+-- ---- why it isn't asked
 
 -- a host's EPID
 pub on-host : (tree : Plan) (host : Epid) (rest : Option Refusal → Type 0) (cause : Option Refusal) → is_some (host_with tree host) ≡ true
@@ -316,40 +311,20 @@ control-refused net slots dst request lose why settled is = record {
 
 -- ---- in the worlds of the laws
 
--- the command's book, and the machine and banks that it leaves
-performed-so : (told : Book) (dst : Epid) (request : Control) (lose : List Fault) (o left : Option State)
-    → TalksOn (IsControlled dst request lose) o told left
-    → OnNet (IsControlBook dst request lose) o told × (left ≡ option_map (after_control dst request lose told) o)
-performed-so told dst request lose None left talk = talk
-performed-so told dst request lose (Some w) left talk = (talk.1.0.book, talk.1.1 ∙ ap (λ (end : State). Some end) talk.1.0.left)
-
-pub control-performs : (world : ScriptWorld) (host to : Epid) (port : ℕ) (o : CtrlOp) (addr : ℕ) (words : List ℕ) (enables : ℕ) (lose : List Fault)
+control-performs : (world : ScriptWorld) (host to : Epid) (port : ℕ) (o : CtrlOp) (addr : ℕ) (words : List ℕ) (enables : ℕ) (lose : List Fault)
     (request : Control) (told : Book) (seen : WorldSeen) (slots : List (Option Registers)) → request ≡ control_of host port o addr words enables
     → Talks (IsControlled to request lose) world told seen slots
     → Performs world (command.Control host to port o addr words enables lose) told seen slots
 control-performs world host to port o addr words enables lose request told seen slots is talks =
     let it : Talks (IsControlled to (control_of host port o addr words enables) lose) world told seen slots =
     subst (λ (c : Control). Talks (IsControlled to c lose) world told seen slots) is talks in
-    let done = performed-so told to (control_of host port o addr words enables) lose (state_in world) it.next.machine it.talk in
-    record {
-      next = it.next;
-      performed = record {
-        book = done.0;
-        setup = it.setup;
-        machine = done.1;
-        banks = it.banks ∙ ap (λ (w : Option State). banks_in world.banks w) done.1;
-      };
-      stands = it.stands;
-    }
+    record { next = it.next; performed = record { done = it.talk; setup = it.setup; banks = it.banks }; stands = it.stands }
 
--- so it is where the command that comes before it in the program changed nothing
-pub control-performed : (old mid new : WorldSeen) (slots between left : List (Option Registers)) (c : ScriptCommand) (host to : Epid) (port : ℕ)
-    (o : CtrlOp) (addr : ℕ) (words : List ℕ) (enables : ℕ) (lose : List Fault) (request : Control) (told : Result Book Memory)
-    → c ≡ command.Control host to port o addr words enables lose → request ≡ control_of host port o addr words enables → Stays old mid slots between
-    → IfOk told (λ book. (w : ScriptWorld) → WorldStandsFor mid between w → Talks (IsControlled to request lose) w book new left)
-    → IfOk told (λ book. (w : ScriptWorld) → WorldStandsFor old slots w → Performs w c book new left)
-control-performed old mid new slots between left c host to port o addr words enables lose request (Err memory) is asks_it same done = tt
-control-performed old mid new slots between left c host to port o addr words enables lose request (Ok book) is asks_it same done = λ w stands.
-    subst (λ (x : ScriptCommand). Performs w x book new left) (sym is)
-    (control-performs w host to port o addr words enables lose request book new left asks_it
-    (done w (world-stays old mid slots between w same stands)))
+pub control-done : (old new : WorldSeen) (slots left : List (Option Registers)) (host to : Epid) (port : ℕ) (o : CtrlOp) (addr : ℕ) (words : List ℕ)
+    (enables : ℕ) (lose : List Fault) (request : Control) (told : Result Book Memory) → request ≡ control_of host port o addr words enables
+    → IfOk told (λ book. (w : ScriptWorld) → WorldStandsFor old slots w → Talks (IsControlled to request lose) w book new left)
+    → IfOk told (λ book. (w : ScriptWorld) → WorldStandsFor old slots w
+    → Performs w (command.Control host to port o addr words enables lose) book new left)
+control-done old new slots left host to port o addr words enables lose request (Err memory) is done = tt
+control-done old new slots left host to port o addr words enables lose request (Ok book) is done = λ w stands.
+    control-performs w host to port o addr words enables lose request book new left is (done w stands)

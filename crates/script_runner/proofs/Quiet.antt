@@ -1,23 +1,20 @@
 -- The commands that let no event happen, in the worlds of the laws.
-use Rattle.std.proofs.Common.{◌≡◌, ℕ, ◌⊎◌, inl, inr, Bool, true, false, List, [], ◌∷◌, refl, sym, ◌∙◌, ap, subst}
-use Rattle.std.specs.Prelude.{Option, None, Some}
+use Rattle.std.proofs.Common.{◌≡◌, Bool, List, refl, sym, subst}
+use Rattle.std.specs.Prelude.{IfOk, MatchOption, Option, None, Some, Result, Ok, Err, slice_set}
 use Rattle.block_registers.specs.Registers.{Registers}
-use Rattle.fabric_events.specs.Begun.{built_now}
 use Rattle.fabric_net.specs.NetView.{NetSeen}
-use Rattle.fabric_net.specs.Standing.{StandsFor}
 use Rattle.net_machine.specs.Begin.{built}
 use Rattle.net_machine.specs.State.{State}
 use Rattle.net_topology.specs.declared.plan.Plan.{Plan}
+use Rattle.rf_base.specs.declared.memory.Memory.{Memory}
 use Rattle.rf_script_types.specs.declared.command.ScriptCommand.{ScriptCommand}
 use Rattle.rf_script_types.specs.declared.command.ScriptCommand.TheVariants as command
 use Rattle.script_books.specs.declared.book.Book.{Book}
 use Rattle.script_books.specs.declared.book.Book.TheVariants as book
-use Rattle.script_books.specs.declared.refusal.Refusal.{Refusal}
 use Rattle.script_books.specs.declared.refusal.Refusal.TheVariants as refusal
 use Rattle.script_worlds.specs.Quiet as quiet
 use Rattle.script_worlds.specs.WorldView.{BuiltStands, WorldSeen, new_net}
 use Rattle.script_worlds.specs.Worlds.{Setup, UnlessRefused, plan_of, unless_refused}
-use Rattle.script_runner.specs.Performed.{IsPerformed, banks_after, machine_after}
 use Rattle.script_runner.specs.ScriptWorlds.{ScriptWorld}
 use Rattle.script_runner.specs.Standing.{NetStandsFor, Performs, WorldStandsFor}
 
@@ -54,8 +51,8 @@ net-stands (book.Duplex duplex) tree routed banks net machine new old = new bank
 quiet-so : (c : ScriptCommand) (old new : WorldSeen) (slots left : List (Option Registers)) (told : Book) (machine : Option State)
     → NetStandsFor old.net machine → quiet.IsPerformed c old new slots left told → Performs (world_of old.setup machine slots) c told new left
 quiet-so (command.Net nodes links room routed limit) old new slots left told machine stands done = record {
-  next = world_of new.setup (machine_after (world_of old.setup machine slots) (command.Net nodes links room routed limit) told) slots;
-  performed = record { book = done.book; setup = done.setup; machine = refl; banks = refl };
+  next = world_of new.setup (unless_refused told machine (Some (built (plan_of nodes links room limit) routed slots))) slots;
+  performed = record { done = (done.book, refl); setup = done.setup; banks = refl };
   stands = record {
     setup = refl;
     machine = subst (λ (net : Option NetSeen). NetStandsFor net (unless_refused told machine (Some (built (plan_of nodes links room limit) routed slots))))
@@ -67,8 +64,8 @@ quiet-so (command.Discover host lose) old new slots left told machine stands don
 quiet-so (command.Route host from to lose) old new slots left told machine stands done = absurd done.book
 quiet-so (command.Control host to port op addr words enables lose) old new slots left told machine stands done = absurd done.book
 quiet-so (command.Unload port) old new slots left told machine stands done = record {
-  next = world_of new.setup machine (banks_after (world_of old.setup machine slots) (command.Unload port) told);
-  performed = record { book = done.book; setup = done.setup; machine = refl; banks = refl };
+  next = world_of new.setup machine (unless_refused told slots (slice_set slots port None));
+  performed = record { done = (done.book, refl); setup = done.setup; banks = refl };
   stands = record {
     setup = refl;
     machine = subst (λ (net : Option NetSeen). NetStandsFor net machine) (sym done.net) stands;
@@ -77,22 +74,22 @@ quiet-so (command.Unload port) old new slots left told machine stands done = rec
 }
 quiet-so (command.Block kind ins outs packets time) old new slots left told machine stands done = record {
   next = world_of new.setup machine slots;
-  performed = record { book = done.book; setup = done.setup; machine = refl; banks = refl };
+  performed = record { done = (done.book, refl); setup = done.setup; banks = refl };
   stands = record { setup = refl; machine = subst (λ (net : Option NetSeen). NetStandsFor net machine) (sym done.net) stands; banks = sym done.banks };
 }
 quiet-so (command.Connect from to flow start policy) old new slots left told machine stands done = record {
   next = world_of new.setup machine slots;
-  performed = record { book = done.book; setup = done.setup; machine = refl; banks = refl };
+  performed = record { done = (done.book, refl); setup = done.setup; banks = refl };
   stands = record { setup = refl; machine = subst (λ (net : Option NetSeen). NetStandsFor net machine) (sym done.net) stands; banks = sym done.banks };
 }
 quiet-so (command.Set at value) old new slots left told machine stands done = record {
   next = world_of new.setup machine slots;
-  performed = record { book = done.book; setup = done.setup; machine = refl; banks = refl };
+  performed = record { done = (done.book, refl); setup = done.setup; banks = refl };
   stands = record { setup = refl; machine = subst (λ (net : Option NetSeen). NetStandsFor net machine) (sym done.net) stands; banks = sym done.banks };
 }
 quiet-so command.Commit old new slots left told machine stands done = record {
   next = world_of new.setup machine slots;
-  performed = record { book = done.book; setup = done.setup; machine = refl; banks = refl };
+  performed = record { done = (done.book, refl); setup = done.setup; banks = refl };
   stands = record { setup = refl; machine = subst (λ (net : Option NetSeen). NetStandsFor net machine) (sym done.net) stands; banks = sym done.banks };
 }
 quiet-so (command.Run seed trace peak lose) old new slots left told machine stands done = absurd done.book
@@ -117,3 +114,20 @@ pub world-stays : (old new : WorldSeen) (slots left : List (Option Registers)) (
     → WorldStandsFor old slots w → WorldStandsFor new left w
 world-stays old new slots left w same stands =
     subst (λ (s : WorldSeen). WorldStandsFor s left w) (sym same.world) (subst (λ (b : List (Option Registers)). WorldStandsFor old b w) (sym same.banks) stands)
+
+-- it stays where the command wasn't begun
+pub passed-stays : (c : ScriptCommand) (old new : WorldSeen) (slots left : List (Option Registers)) (told : Option Book) → told ≡ None
+    → MatchOption told (quiet.IsPassed c old new slots left) (quiet.IsPerformed c old new slots left) → Stays old new slots left
+passed-stays c old new slots left told none done =
+    let passed : quiet.IsPassed c old new slots left =
+    subst (λ (o : Option Book). MatchOption o (quiet.IsPassed c old new slots left) (quiet.IsPerformed c old new slots left)) none done in
+    record { world = passed.world; banks = passed.banks }
+
+-- and what then is performed is performed from the world as it was
+pub performed-behind : (old mid new : WorldSeen) (slots between left : List (Option Registers)) (c d : ScriptCommand) (told : Result Book Memory)
+    → c ≡ d → Stays old mid slots between
+    → IfOk told (λ book. (w : ScriptWorld) → WorldStandsFor mid between w → Performs w d book new left)
+    → IfOk told (λ book. (w : ScriptWorld) → WorldStandsFor old slots w → Performs w c book new left)
+performed-behind old mid new slots between left c d (Err memory) is same done = tt
+performed-behind old mid new slots between left c d (Ok book) is same done = λ w stands.
+    subst (λ (x : ScriptCommand). Performs w x book new left) (sym is) (done w (world-stays old mid slots between w same stands))

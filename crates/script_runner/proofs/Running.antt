@@ -1,5 +1,5 @@
 -- A run, in the worlds of the laws.
-use Rattle.std.proofs.Common.{◌≡◌, ℕ, Bool, List, [], refl, sym, ◌∙◌, ap, subst, unwrap_or}
+use Rattle.std.proofs.Common.{◌≡◌, ℕ, Bool, List, refl, sym, ◌∙◌, ap, subst, unwrap_or}
 use Rattle.std.specs.Prelude.{Option, None, Some}
 use Rattle.block_registers.specs.Registers.{Registers}
 use Rattle.fabric_net.specs.NetView.{NetSeen}
@@ -12,7 +12,6 @@ use Rattle.net_machine.specs.Begin.{begun}
 use Rattle.net_machine.specs.CanBegin.{CanBegin}
 use Rattle.net_machine.specs.Moves.{Loads, after_journal, moves_of}
 use Rattle.net_machine.specs.State.{Node, State}
-use Rattle.net_machine.specs.declared.event.Event.{Event}
 use Rattle.net_machine.specs.declared.plan.RunPlan.{RunPlan}
 use Rattle.net_present.specs.Present.{Present}
 use Rattle.net_rest.proofs.Laws.{runs_rest}
@@ -74,7 +73,7 @@ pub refused-stands : (s : WorldSeen) (banks : List (Option Registers)) (w : Scri
     → Performs w (command.Run seed trace peak lose) (book.Refused why) s banks
 refused-stands s banks w seed trace peak lose why stands is = record {
   next = w;
-  performed = record { book = cause-stands s banks w lose (Some why) stands is; setup = refl; machine = refl; banks = refl };
+  performed = record { done = (cause-stands s banks w lose (Some why) stands is, refl); setup = refl; banks = refl };
   stands = stands;
 }
 
@@ -127,14 +126,16 @@ run-so setup seed trace peak lose plan net new slots left run (Some state) value
     record {
       next = world_of setup (Some (after_journal (begun plan w) run.journal)) left;
       performed = record {
-        book = record {
-          free = subst (λ (nodes : List Node). IsRunCause setup nodes lose None) stands.now.nodes free;
-          start = begun plan w;
-          begins = ap (λ (q : RunPlan). Some (begun q w)) (sym value);
-          chosen = ends.book w here refl;
-        };
+        done = (
+          record {
+            free = subst (λ (nodes : List Node). IsRunCause setup nodes lose None) stands.now.nodes free;
+            start = begun plan w;
+            begins = ap (λ (q : RunPlan). Some (begun q w)) (sym value);
+            chosen = ends.book w here refl;
+          },
+          ap (λ (q : RunPlan). Some (after_journal (begun q w) run.journal)) value,
+        );
         setup = refl;
-        machine = ap (λ (q : RunPlan). Some (after_journal (begun q w) run.journal)) value;
         banks = sym (ends.banks w here refl) ∙ ap (λ (q : RunPlan). (after_journal (begun q w) run.journal).banks) value;
       };
       stands = record { setup = refl; machine = ends.net w here refl; banks = refl };

@@ -1,14 +1,18 @@
 -- The commands by which a host talks, in the worlds of the laws.
-use Rattle.std.proofs.Common.{◌≡◌, ◌∙◌, List, Option, None, Some, refl, subst}
+use Rattle.std.proofs.Common.{◌≡◌, ◌∙◌, ℕ, Bool, false, List, Option, None, Some, refl, subst, sym}
+use Rattle.std.specs.Prelude.{is_some}
 use Rattle.block_registers.specs.Registers.{Registers}
+use Rattle.chdr_words.specs.declared.epid.Epid.{Epid}
 use Rattle.fabric_net.specs.Asking.{marked_now}
 use Rattle.fabric_net.specs.NetView.{NetSeen}
 use Rattle.host_talk.specs.Settled.{IsSettledNow}
+use Rattle.net_machine.specs.Nodes.{host_with}
 use Rattle.net_machine.specs.State.{State}
 use Rattle.net_present.specs.Present.{Present}
 use Rattle.net_topology.specs.declared.plan.Plan.{Plan}
 use Rattle.script_books.specs.declared.book.Book.{Book}
 use Rattle.script_books.specs.declared.book.Book.TheVariants as book
+use Rattle.script_books.specs.declared.refusal.Refusal.{Refusal}
 use Rattle.script_books.specs.declared.refusal.Refusal.TheVariants as refusal
 use Rattle.script_worlds.specs.WorldView.{WorldSeen}
 use Rattle.script_worlds.specs.WorldView as seen
@@ -16,6 +20,7 @@ use Rattle.script_worlds.specs.Worlds.{Setup}
 use Rattle.stream_endpoint.specs.declared.fault.Fault.{Fault}
 use Rattle.script_runner.specs.ScriptWorlds.{ScriptWorld, with_banks}
 use Rattle.script_runner.specs.Standing.{HasTold, NetStandsFor, Talks, WorldStandsFor}
+use Rattle.script_runner.specs.Talks.{FitsIn, OnHost, OnHostNode}
 use Rattle.script_runner.proofs.Quiet.{in-each-world, world_of}
 use Rattle.script_runner.proofs.Running.{stands-loaded}
 
@@ -38,6 +43,26 @@ ready-talked (Some tree) old new ready same settled = record { tree_is = same �
 pub ready-settled : (tree : Option Plan) (net : NetSeen) → seen.AreReady tree (Some net) → IsSettledNow net.present
 ready-settled None net ready = absurd ready
 ready-settled (Some tree) net ready = ready.settled
+
+-- no host has the EPID
+pub no-host : (tree : Plan) (host : Epid) (rest : Option Refusal → Type 0) → is_some (host_with tree host) ≡ false
+    → OnHost tree host rest (Some (refusal.NoHost host))
+no-host tree host rest none = by_node (host_with tree host) none
+  where
+    by_node : (o : Option (ℕ × Bool)) → is_some o ≡ false → OnHostNode o host rest (Some (refusal.NoHost host))
+    by_node None is = refl
+    by_node (Some node) is = absurd cc
+
+-- what a command has to meet in the world's network it has to meet in the net
+pub fits-net : (tree : Option Plan) (net : NetSeen) (Fits : Plan → Type 0) → seen.AreReady tree (Some net) → FitsIn tree Fits
+    → Fits net.present.tree
+fits-net None net Fits ready fits = absurd ready
+fits-net (Some tree) net Fits ready fits = subst (λ (t : Plan). Fits t) (sym ready.tree_is) fits
+
+-- what holds whatever the network is
+pub fits-in : (tree : Option Plan) (Fits : Type 0) → Fits → FitsIn tree (λ t. Fits)
+fits-in None Fits fits = tt
+fits-in (Some tree) Fits fits = fits
 
 -- in the world whose parts are those of the program's
 told-so : (Tells : State → Book → State → Type 0) (setup : Setup) (net new : NetSeen) (slots left : List (Option Registers))

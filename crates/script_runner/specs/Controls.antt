@@ -2,6 +2,7 @@
 use Rattle.std.specs.Prelude.{◌≡◌, ◌⊎◌, ℕ, Bool, true, false, List, Option, None, Some, is_none, if◌then◌else◌}
 use Rattle.std.specs.Option.{option_map_or}
 use Rattle.chdr_packets.specs.declared.packet.Body.TheVariants as body
+use Rattle.chdr_words.specs.Control.{FitsControl}
 use Rattle.chdr_words.specs.declared.control.Control.{Control}
 use Rattle.chdr_words.specs.declared.control.CtrlOp.{CtrlOp}
 use Rattle.chdr_words.specs.declared.control.CtrlStatus.TheVariants.{Okay}
@@ -40,6 +41,12 @@ control_of host port op addr words enables = record {
   addr = addr;
   words = words;
 }
+
+-- it fits its words, and is a host's first
+pub record IsFirstRequest (request : Control) : Type 0 where
+  pub fits : FitsControl request
+  pub first : request.seq ≡ 0
+  pub asks : request.ack ≡ false
 
 -- ---- before it is asked
 

@@ -8,7 +8,6 @@ use Rattle.rf_script_types.specs.declared.fault.ScriptFault.{ScriptFault}
 use Rattle.script_books.specs.Counts.{refused, undrained}
 use Rattle.script_report.specs.Report.{report_of}
 use Rattle.script_books.specs.declared.book.Book.{Book}
-use Rattle.script_books.specs.declared.book.Books.{Books}
 use Rattle.script_runner.specs.FaultLines.{fault_line}
 use Rattle.script_runner.specs.Performed.{IsOneThread, IsOneThreadSoFar}
 

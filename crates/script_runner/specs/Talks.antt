@@ -9,12 +9,12 @@ use Rattle.script_books.specs.declared.book.Book.TheVariants as book
 use Rattle.script_books.specs.declared.refusal.Refusal.{Refusal}
 use Rattle.script_books.specs.declared.refusal.Refusal.TheVariants as refusal
 
--- without a network a command is refused; else its book is one in the network's state
-abbrev pub OnNet : (State → Book → Type 0) → Option State → Book → Type 0
-OnNet IsOwn None told = told ≡ book.Refused refusal.NoNet
-OnNet IsOwn (Some w) told = IsOwn w told
+-- what a command has to meet in its network, if there is one
+abbrev pub FitsIn : Option Plan → (Plan → Type 0) → Type 0
+FitsIn None Fits = Unit {0}
+FitsIn (Some tree) Fits = Fits tree
 
--- the same with the state that the command leaves
+-- without a network a command is refused; else it has a book in the network's state, and leaves a state
 abbrev pub TalksOn : (State → Book → State → Type 0) → Option State → Book → Option State → Type 0
 TalksOn Tells None told left = (told ≡ book.Refused refusal.NoNet) × (left ≡ None)
 TalksOn Tells (Some w) told left = (end : State) × (Tells w told end × (left ≡ Some end))

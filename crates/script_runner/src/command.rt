@@ -3,8 +3,10 @@ ghost use Rattle.rf_script_types.specs.Fits.{FitsCommand};
 ghost use Rattle.script_runner.specs.ScriptWorlds.{ScriptWorld};
 ghost use Rattle.script_runner.specs.Standing.{Performs, WorldStandsFor};
 
-use crate::controls::{control, request_of};
+use crate::controls::{Asking, request_of};
+use crate::discoveries::discover;
 use crate::runs::run;
+use crate::talks::converse;
 use block_registers::RegisterSlots;
 use net_machine::Seed;
 use rf_base::Memory;
@@ -15,7 +17,7 @@ use std::alloc::Global;
 
 /// Performs one command on one thread, and returns its book.
 ///
-/// Walks, routes, twins and duplexes aren't performed: their book is `Refused(NotBuilt)`. After `Memory` the world is
+/// Routes, twins and duplexes aren't performed: their book is `Refused(NotBuilt)`. After `Memory` the world is
 /// only good to be dropped. Rule: docs/scripts-and-reports.md.
 pub fn run_command_one<B: RegisterSlots>(
     alloc: Global,
@@ -31,12 +33,7 @@ pub fn run_command_one<B: RegisterSlots>(
         return Ok(book);
     }
     match command {
-        ScriptCommand::Run {
-            seed,
-            trace: _,
-            peak: _,
-            lose,
-        } => run(alloc, world, banks, Seed(*seed), lose),
+        ScriptCommand::Discover { host, lose } => discover(alloc, world, banks, *host, lose),
         ScriptCommand::Control {
             host,
             to,
@@ -48,12 +45,16 @@ pub fn run_command_one<B: RegisterSlots>(
             lose,
         } => {
             let request = request_of(*host, *port, *op, *addr, words, *enables);
-            control(alloc, world, banks, *to, &request, lose)
+            let asking = Asking {
+                dst: *to,
+                request: &request,
+                lose,
+            };
+            converse(alloc, world, banks, &asking)
         }
-        ScriptCommand::Discover { .. }
-        | ScriptCommand::Route { .. }
-        | ScriptCommand::Twin { .. }
-        | ScriptCommand::Duplex { .. } => Ok(Book::Refused(Refusal::NotBuilt)),
+        ScriptCommand::Run { seed, lose, .. } => run(alloc, world, banks, Seed(*seed), lose),
+        ScriptCommand::Route { .. } | ScriptCommand::Twin { .. } | ScriptCommand::Duplex { .. } =>
+            Ok(Book::Refused(Refusal::NotBuilt)),
         ScriptCommand::Net { .. }
         | ScriptCommand::Unload { .. }
         | ScriptCommand::Block { .. }

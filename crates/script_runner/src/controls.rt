@@ -1,19 +1,16 @@
 //! Control commands: a host of the network asks a control request.
-ghost use Rattle.std.specs.Prelude.{◌≡◌, false, IfOk};
-ghost use Rattle.chdr_words.specs.Control.{FitsControl};
+ghost use Rattle.std.specs.Prelude.{◌≡◌, IfOk};
 ghost use Rattle.host_talk.specs.Settled.{IsSettledNow};
-ghost use Rattle.script_runner.specs.Controls.{IsControlCause, IsControlled, control_of};
-ghost use Rattle.script_runner.specs.ScriptWorlds.{ScriptWorld};
-ghost use Rattle.script_runner.specs.Standing.{HasTold, Talks, WorldStandsFor};
+ghost use Rattle.script_runner.specs.Controls.{IsControlCause, IsControlled, IsFirstRequest, control_of};
+ghost use Rattle.script_runner.specs.Standing.{HasTold};
 
-use crate::talks::{has_host, name};
+use crate::talks::{Talk, has_host, name};
 use block_registers::RegisterSlots;
 use chdr_words::{Control, CtrlOp, CtrlStatus, Epid, Words15};
 use ctrl_transactions::{CtrlFault, Host};
 use fabric_net::Net;
 use rf_base::Memory;
 use script_books::{Book, Refusal};
-use script_worlds::World;
 use std::alloc::Global;
 use stream_endpoint::Faults;
 
@@ -43,34 +40,32 @@ pub(crate) fn request_of(
     }
 }
 
-/// Has a host of a world's network ask a control request of an EPID, if nothing refuses it.
-///
-/// The host is the source of the request.
-pub(crate) fn control<B: RegisterSlots>(
-    alloc: Global,
-    world: &mut World,
-    banks: &mut B,
-    dst: Epid,
-    request: &Control,
-    lose: &Faults,
-) -> Result<Book, Memory>
-    requires fits { FitsControl request.now }
-    requires first { request.now.seq ≡ 0 }
-    requires asks { request.now.ack ≡ false }
-    ensures { IfOk result (λ book. (w : ScriptWorld) → WorldStandsFor world.old (B.slots banks.old) w →
-        Talks (IsControlled dst request.now lose.now) w book world.new (B.slots banks.new)) }
-{
-    match world.take_net() {
-        Some(mut net) => {
-            let book = control_in(alloc, &mut net, banks, dst, request, lose)?;
-            world.put_net(net);
-            Ok(book)
-        }
-        None => Ok(Book::Refused(Refusal::NoNet)),
+/// A control request of an EPID, with what it loses. The host that asks it is its source.
+#[derive(Clone, Copy)]
+pub(crate) struct Asking<'a> {
+    pub(crate) dst: Epid,
+    pub(crate) request: &'a Control,
+    pub(crate) lose: &'a Faults,
+}
+
+impl Talk for Asking<'_> {
+    ghost use Rattle.script_runner.specs.Controls.{IsControlled, IsFirstRequest};
+
+    ghost Fits = { λ it _. IsFirstRequest it.request.now };
+
+    ghost Tells = { λ it. IsControlled it.dst it.request.now it.lose.now };
+
+    fn talk<B: RegisterSlots>(
+        &self,
+        alloc: Global,
+        net: &mut Net,
+        banks: &mut B,
+    ) -> Result<Book, Memory> {
+        control_in(alloc, net, banks, self.dst, self.request, self.lose)
     }
 }
 
-/// The same in a net.
+/// Has a host of a net ask a control request of an EPID, if nothing refuses it.
 fn control_in<B: RegisterSlots>(
     alloc: Global,
     net: &mut Net,
@@ -80,9 +75,7 @@ fn control_in<B: RegisterSlots>(
     lose: &Faults,
 ) -> Result<Book, Memory>
     requires settled { IsSettledNow net.old.present }
-    requires fits { FitsControl request.now }
-    requires first { request.now.seq ≡ 0 }
-    requires asks { request.now.ack ≡ false }
+    requires first { IsFirstRequest request.now }
     ensures { IfOk result (λ book. HasTold (IsControlled dst request.now lose.now) net.old (B.slots banks.old) book
         net.new (B.slots banks.new)) }
 {

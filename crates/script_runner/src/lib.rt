@@ -5,6 +5,7 @@
 
 mod command;
 mod controls;
+mod discoveries;
 mod fault_text;
 mod runs;
 mod script;

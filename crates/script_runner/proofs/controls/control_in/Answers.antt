@@ -16,7 +16,7 @@ returns-in-Ok g c =
     let slots = g.B.RegisterSlots.slots c.args.banks.now in
     let left = g.B.RegisterSlots.slots c.transact.new.banks in
     control-told c.args.net.now c.name.new.net c.transact.new.net slots left c.args.dst c.args.request.now c.args.lose.now (Some c.in-Ok.ack)
-    c.transact.new.self c.stands.ensures c.in_ok-name.ensures.settled c.requires.first c.requires.asks c.in_default.ensures c.in_ok-name.ensures.machine
+    c.transact.new.self c.stands.ensures c.in_ok-name.ensures.settled c.requires.first.first c.requires.first.asks c.in_default.ensures c.in_ok-name.ensures.machine
     (subst (λ (host : HostSeen). HasAsked (record { host = host; net = c.name.new.net; banks = slots }) c.args.dst c.args.request.now (Some c.in-Ok.ack)
     (record { host = c.transact.new.self; net = c.transact.new.net; banks = left })) c.new-host.ensures c.in-Ok.ensures)
 
@@ -25,7 +25,7 @@ returns-in-Err-NoAck g c =
     let slots = g.B.RegisterSlots.slots c.args.banks.now in
     let left = g.B.RegisterSlots.slots c.transact.new.banks in
     control-told c.args.net.now c.name.new.net c.transact.new.net slots left c.args.dst c.args.request.now c.args.lose.now None
-    c.transact.new.self c.stands.ensures c.in_ok-name.ensures.settled c.requires.first c.requires.asks c.in_default.ensures c.in_ok-name.ensures.machine
+    c.transact.new.self c.stands.ensures c.in_ok-name.ensures.settled c.requires.first.first c.requires.first.asks c.in_default.ensures c.in_ok-name.ensures.machine
     (subst (λ (host : HostSeen). HasAsked (record { host = host; net = c.name.new.net; banks = slots }) c.args.dst c.args.request.now None
     (record { host = c.transact.new.self; net = c.transact.new.net; banks = left })) c.new-host.ensures
     (subst (λ (fault : CtrlFault). IsTransaction (record { host = c.new-host.result; net = c.name.new.net; banks = slots }) c.args.dst c.args.request.now

@@ -1,5 +1,4 @@
-use Rattle.std.proofs.Common.{◌≡◌, ◌+◌, List, arith, subst, sym, take}
-use Rattle.rf_script_types.specs.declared.command.ScriptCommand.{ScriptCommand}
+use Rattle.std.proofs.Common.{◌+◌, List, arith, subst, sym, take}
 use Rattle.script_books.specs.declared.book.Book.{Book}
 use Rattle.script_runner.specs.Performed.{IsOneThreadSoFar}
 use Rattle.script_runner.proofs.Lists.{IsSoFar, begins, goes-on, on-err, performed-so-far}

@@ -1,4 +1,4 @@
-use Rattle.std.proofs.Common.{◌≡◌, ◌≢◌, List, ℕ, arith, inl, inr, subst}
+use Rattle.std.proofs.Common.{◌≢◌, List, ℕ, arith, inl, inr, subst}
 use Rattle.std.specs.Prelude.{Err, Result}
 use Rattle.rf_script_fits.proofs.Laws.{answer_fits}
 use Rattle.rf_script_reader.specs.Read.{IsScriptOf}
