@@ -11,8 +11,8 @@ pub enum RouteFault {
     /// This EPID is that of no host or endpoint that was found: the host's, or that of an end. Nothing was asked.
     #[error("Unknown {}", .epid.0)]
     Unknown { epid: Epid },
-    /// The write at the node of this number, or its answer, was lost. The nodes of the way before it are written, it may
-    /// be, and those behind it are not.
+    /// The write at the node of this number, or its answer, was lost. The nodes of the way before it are written, it is
+    /// if its answer was lost, and nothing was asked at those behind it.
     #[error("Lost {instance}")]
     Lost { instance: u16 },
     /// There was no memory; some nodes may be written, and the net is only good to be built anew.
