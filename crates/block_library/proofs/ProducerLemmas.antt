@@ -1,4 +1,4 @@
--- The producer list by its places.
+-- Packet k of a Tx stands at place k of what it produces.
 use Rattle.std.proofs.Common.{◌≡◌, ◌<◌, ℕ, length, get_or, arith}
 use Rattle.std.proofs.lemmas.List.FromFn.{length-map-range_with_len, get_or-map-range_with_len}
 use Rattle.chdr_packets.specs.declared.packet.Packet.{Packet}

@@ -1,4 +1,4 @@
--- Samples one after another.
+-- What keep and repeat give grows sample by sample.
 use Rattle.std.proofs.Common.{◌≡◌, ◌+◌, ℕ, ◌++◌, [], ◌∷◌, sym, ◌∙◌, ap, map-id, append-nil, List, ◌<◌, refl, map, take, drop, cond, nat_eq, ◌*◌, ◌/◌, ◌%◌, arith, ◌≤◌, ◌-◌}
 use Rattle.std.specs.List.{flat_map, range_with_len}
 use Rattle.std.proofs.lemmas.List.FromFn.{map-range_with_len_more}

@@ -16,7 +16,7 @@ pub struct Made {
 }
 
 impl Made {
-    /// These packets, with room for so many more.
+    /// These packets, with room for `room` more.
     pub fn of(mut first: Vec<Packet>, second: Vec<Packet>, room: usize) -> Result<Made, Memory>
         ensures first { IfOk result (λ made. made.first.items ≡ first.items) }
         ensures second { IfOk result (λ made. made.second.items ≡ second.items) }
@@ -178,7 +178,7 @@ pub fn repeated(alloc: Global, n: u16, item: u32, packet: &Packet) -> Result<Vec
     Ok(made)
 }
 
-/// Where repeat stands in a packet: at this sample, of which so many are written.
+/// Where repeat stands in a packet: at this sample, of which this number is written.
 #[derive(Clone, Copy)]
 struct Place {
     index: usize,

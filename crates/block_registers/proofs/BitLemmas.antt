@@ -1,4 +1,4 @@
--- A merged word, bit by bit.
+-- A merged word has the value's bit where mask and enables have it, and the old word's elsewhere.
 use Rattle.std.proofs.Common.{◌≡◌, ◌<◌, ◌^◌, ◌-◌, ℕ, zero, suc, cond, min, max, nat_eq, arith, w32}
 use Rattle.std.specs.Int.{bit_at}
 use Rattle.std.proofs.lemmas.Nat.Bits.{bit_at_or, bit_at_and, bit_at_not, bit_at-lt}

@@ -1,4 +1,4 @@
--- Registers one after another, and changes in turn.
+-- Registers that are read or written one after another are those of the whole request.
 use Rattle.std.proofs.Common.{◌≡◌, ◌+◌, ◌*◌, ◌<◌, ◌&&◌, ◌++◌, [], ◌∷◌, ℕ, List, Bool, true, false, Some, None, length, sym, ◌∙◌, ap, refl, map-id, arith, cond, zero-add, is_some, map, get_or, set, ◌^◌, ◌/◌, bit_and}
 use Rattle.std.proofs.Math.ListN.{get_or-map}
 use Rattle.std.specs.Int.Bits.{and_zero_l, and_zero_r, or_zero_l}

@@ -1,4 +1,4 @@
--- Slots by their registers.
+-- A change at one port changes the registers of that slot alone, and past the slots nothing.
 use Rattle.std.proofs.Common.{◌≡◌, ℕ, List, Option, None, get_or, set, option_map, length, ◌≤◌, refl}
 use Rattle.std.proofs.lemmas.List.{get_or_past, set_past, length-map}
 use Rattle.chdr_words.specs.declared.control.Control.{Control}

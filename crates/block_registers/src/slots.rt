@@ -29,7 +29,7 @@ pub fn operate_in<B: RegisterBank>(
     acknowledge(me, request, outcome)
 }
 
-/// The words that the bank of a slot answers; none stands for CMDERR.
+/// The words that the bank of a slot returns; none stands for CMDERR.
 #[tactic(auto, using(crate::proofs::SlotLemmas::slot_lemmas))]
 fn operate_at<B: RegisterBank>(
     slots: &mut [Option<B>],

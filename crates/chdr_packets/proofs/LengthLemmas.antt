@@ -1,4 +1,4 @@
--- Sizes of packets that fit.
+-- The hops of a management payload that fits have at most 261,888 operations.
 use Rattle.std.proofs.Common.{◌≤◌, All, List, length, arith}
 use Rattle.std.specs.List.{sum_by}
 use Rattle.std.proofs.lemmas.List.Sums.{sum_by-le}

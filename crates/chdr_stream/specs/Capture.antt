@@ -60,7 +60,7 @@ part_at at bytes (Ok None) rest = record { items = []; fault = Some (at, truncat
 part_at at bytes (Ok (Some found)) rest = behind (record { at = at; canonical = is_plain bytes; packet = found.0 } ∷ []) (rest (found.1 - 1))
 part_at at bytes (Err fault) rest = record { items = []; fault = Some (at, reason_of fault) }
 
--- the capture behind so many bytes of a packet, from a place on
+-- the capture behind this number of bytes of a packet, from a place on
 unfoldable pub capture_from : ℕ → ℕ → List ℕ → Capture
 capture_from skip at [] = record { items = []; fault = None }
 capture_from (suc skip) at (byte ∷ bytes) = capture_from skip (at + 1) bytes

@@ -50,7 +50,7 @@ passing_at s (Ok None) = Ok None
 passing_at s (Ok (Some found)) = Ok (Some (record { at = s.at; canonical = is_plain s.kept }))
 passing_at s (Err fault) = Err (Bad s.at fault)
 
--- past so many bytes
+-- past this number of bytes
 abbrev pub past : Stream → ℕ → Stream
 past s size = record s { at = s.at + size; kept = drop size s.kept }
 

@@ -1,4 +1,4 @@
--- A word with one field replaced.
+-- A word with one field replaced is computed without an overflow.
 use Rattle.std.proofs.Common.{◌≡◌, ℕ, ◌+◌, ◌-◌, ◌*◌, ◌/◌, ◌%◌, ◌^◌, ◌<◌, ◌≤◌, sym, ap, ◌∙◌, arith}
 use Rattle.std.proofs.lemmas.Nat.{pow_pos, pow-add, shr_split, shr-shr, shr_below, mod_below, shl_whole, mul-add-lt}
 use Rattle.chdr_words.specs.Field.{field, with_field}

@@ -1,4 +1,4 @@
--- Words as bytes.
+-- Words are read back from the bytes that spell them, one after another.
 use Rattle.std.proofs.Common.{◌≤◌, ◌∙◌, ℕ, zero, suc, add-one, add-zero, ◌≡◌, ◌+◌, ◌*◌, ◌^◌, ◌<◌, List, [], ◌∷◌, ◌++◌, length, get_or, drop, refl, sym, ap, append_assoc, arith}
 use Rattle.std.specs.Int.{w32, w64, from_le_bytes, to_le_bytes}
 use Rattle.std.proofs.lemmas.Nat.{from_le_bytes-to_le_bytes_4, from_le_bytes-to_le_bytes_8}

@@ -58,7 +58,7 @@ abbrev pub time_bit : Option ℕ → ℕ
 time_bit None = 0
 time_bit (Some time) = 1
 
--- word 0, the time of so many bytes, the operation and the words
+-- word 0, the time of 0 or 8 bytes, the operation and the words
 abbrev pub control_size : ℕ → ℕ → ℕ
 control_size time count = 12 + time + 4 * count
 

@@ -63,7 +63,7 @@ pending_of word = field word 7 0
 abbrev pub op_of : ℕ → MgmtOp
 op_of word = record { payload = field word 63 16; code = field word 15 8 }
 
--- behind a word with so many pending the counts run down, and the last is 0
+-- behind a word with n pending the counts run down, and the last is 0
 abbrev pub runs_down : ℕ → List ℕ → Bool
 runs_down pending [] = pending == 0
 runs_down pending (word ∷ words) = (pending == 0 || pending == pending_of word + 1) && runs_down (pending_of word) words
@@ -82,11 +82,11 @@ hops_of (word ∷ words) = if pending_of word == 0 then (op_of word ∷ []) ∷ 
 abbrev pub words_of : List ℕ → List ℕ
 words_of bytes = words_at bytes 8 (length bytes / 8 - 1)
 
--- so many words have nothing pending
+-- this number of words has nothing pending
 abbrev pub hop_count : List ℕ → ℕ
 hop_count words = count_by (λ word. pending_of word == 0) words
 
--- the words run down to the end of the last of so many hops
+-- the words run down to the end of the last of this number of hops
 abbrev pub are_hops : ℕ → List ℕ → Bool
 are_hops count words = runs_down 0 words && hop_count words == count
 

@@ -253,7 +253,7 @@ fn spell(v: &Control, out: &mut [u8; 80]) -> usize
     }
 }
 
-/// Writes the canonical spelling, whose size is rounded up to words, and answers that size.
+/// Writes the canonical spelling, whose size is rounded up to words, and returns that size.
 ///
 /// What stands in `out` behind it isn't told.
 pub fn encode_control(v: &Control, out: &mut [u8; 80]) -> usize

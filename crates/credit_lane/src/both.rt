@@ -34,7 +34,7 @@ pub fn meet(tx: &mut LaneTx<'_>, rx: &mut LaneRx<'_>)
     rx.put = tx.put;
 }
 
-/// Ends a lane, and answers both counts. Packets that were not taken are dropped with the lane.
+/// Ends a lane, and returns both counts. Packets that were not taken are dropped with the lane.
 pub fn close(tx: LaneTx<'_>, rx: LaneRx<'_>) -> LaneEnd
     requires { tx.lane ≡ rx.lane }
     ensures counts { (result.put ≡ length tx.entry.put) × (result.got ≡ length rx.entry.got) }

@@ -27,7 +27,7 @@ fn numbered(alloc: Global, number: u64) -> Packet {
     }
 }
 
-/// Puts numbered packets while there is room, up to `most`, and answers how many were put in all.
+/// Puts numbered packets while there is room, up to `most`, and returns how many were put in all.
 fn fill(alloc: Global, tx: &mut LaneTx<'_>, from: u64, most: u64) -> u64
     requires count { (length tx.old.put ≡ from) × (from ≤ most) × (most < 2 ^ 63) }
     requires plan { tx.old.lane.plan ≡ Any }
@@ -43,7 +43,7 @@ fn fill(alloc: Global, tx: &mut LaneTx<'_>, from: u64, most: u64) -> u64
     put
 }
 
-/// Takes what one look finds, and answers whether the packets had the numbers from `from` on.
+/// Takes what one look finds, and returns whether the packets had the numbers from `from` on.
 fn drain(rx: &mut LaneRx<'_>, from: u64) -> (u64, bool)
     ensures lane { rx.new.lane ≡ rx.old.lane }
 {

@@ -57,7 +57,7 @@ impl LaneTx<'_> {
         self.put += 1;
     }
 
-    /// Looks at the number of packets taken, and answers it.
+    /// Looks at the number of packets taken, and returns it.
     pub fn look_taken(&mut self) -> u64
         ensures answer { result ≡ self.new.taken }
         ensures rises { (self.old.taken ≤ result) × (result ≤ length self.new.put) }

@@ -1,4 +1,4 @@
--- Flags by their words.
+-- A flag is a bit of its word, and the next set one is found word by word.
 use Rattle.std.proofs.Common.{◌≡◌, ◌≢◌, ◌⊎◌, ℕ, zero, suc, ◌+◌, ◌-◌, ◌*◌, ◌/◌, ◌%◌, ◌^◌, ◌<◌, ◌≤◌, ◌==◌, ◌∙◌, Bool, true, false, cond, List, [], length, take, get_or, set, replicate, ext_get_or, get_or-set_same, get_or-set_other, refl, sym, ap, subst, inl, inr, arith, w64, Option, Some, None}
 use Rattle.std.specs.Prelude.{MatchOption}
 use Rattle.std.specs.Int.{bit_at, trailing_zeros}

@@ -1,4 +1,4 @@
--- The nodes of a net as it is built.
+-- Each node of a net as it is built is the machine's.
 use Rattle.std.proofs.Common.{◌≡◌, ℕ, ◌<◌, true, false, List, [], ◌∷◌, length, refl, ◌∙◌, ap, subst, Option, None, Some}
 use Rattle.std.specs.Prelude.{map, if◌then◌else◌}
 use Rattle.std.specs.Option.{option_map_or}

@@ -463,7 +463,7 @@ fn take(into: &mut InEnd, untaken: &mut HeapCircularBuffer<u32>, count: u64)
     into.taken(count as u32, bytes);
 }
 
-/// Takes so many sizes off the front, and returns their sum.
+/// Takes this number of sizes off the front, and returns their sum.
 fn release(sizes: &mut HeapCircularBuffer<u32>, count: u64) -> u64
     requires { sum sizes.old.items < 2 ^ 64 }
     ensures sizes { sizes.new ≡ buffer (drop count sizes.old.items) sizes.old.capacity }

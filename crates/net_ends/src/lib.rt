@@ -1,4 +1,4 @@
-//! How runs end: where nothing more may happen, and what was carried by then.
+//! How runs end: when no event is enabled any more, and what was carried by then.
 //!
 //! Rule: docs/machine-laws.md, "How runs end".
 #![tactic(auto)]

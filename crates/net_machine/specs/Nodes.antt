@@ -122,6 +122,6 @@ place_by w x port (Host epid) = Nowhere
 place_by w x port (Endpoint epid bank) =
     if port == block_port then block_place w (block_on w epid) else place_of w.banks (slot_at w.tree x port)
 
--- of a node that may not be there
+-- of a node that might not be there
 abbrev pub place_at : State → ℕ → ℕ → Port
 place_at w x port = option_map_or (place_by w x port) (planned w.tree x) Nowhere

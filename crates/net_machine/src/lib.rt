@@ -1,4 +1,4 @@
-//! The machine of a whole network, as definitions: its state, what may happen, and what that does.
+//! The machine of a whole network, as definitions: its state, and its events with what each asks and does.
 //!
 //! docs/machine.md tells it in prose.
 #![tactic(auto)]

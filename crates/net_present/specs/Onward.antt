@@ -166,7 +166,7 @@ place_by_now h x port (Endpoint epid bank) = if port == block_port
     then block_place_now h.present (block_on_now h.present epid)
     else place_of h.banks (slot_at h.present.tree x port)
 
--- of a node that may not be there
+-- of a node that might not be there
 abbrev pub place_now : Held → ℕ → ℕ → Port
 place_now h x port = option_map_or (place_by_now h x port) (planned h.present.tree x) Nowhere
 

@@ -41,7 +41,7 @@ leg from to = record { from = epid from; to = epid to; flow = usual; start = 0; 
 abbrev pub middle : BlockKind → BlockPlan
 middle kind = record { kind = kind; ins = epid 3 ∷ []; outs = epid 3 ∷ []; packets = 0; spp = 2; item = 4; time = None }
 
--- so many packets of two samples through a block of this kind
+-- n packets of two samples through a block of this kind
 abbrev pub through : BlockKind → ℕ → RunPlan
 through kind packets = record {
   streams = leg 1 3 ∷ leg 3 2 ∷ [];

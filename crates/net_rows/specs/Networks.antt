@@ -30,7 +30,7 @@ usual = record { cap_bytes = 65536; cap_packets = 32; freq_bytes = 8192; freq_pa
 abbrev pub stream : Flow → ℕ → Policy → StreamPlan
 stream flow start policy = record { from = epid 1; to = epid 2; flow = flow; start = start; policy = policy }
 
--- a Tx at EPID 1 with so many packets of so many samples of four bytes
+-- a Tx at EPID 1 with n packets of m samples of four bytes
 abbrev pub tx : ℕ → ℕ → BlockPlan
 tx packets spp = record { kind = Tx; ins = []; outs = epid 1 ∷ []; packets = packets; spp = spp; item = 4; time = None }
 
@@ -55,7 +55,7 @@ one_stream s packets spp faults = record { streams = s ∷ []; blocks = tx packe
 abbrev pub begun_on_line : RunPlan → State
 begun_on_line plan = begun plan (built line true [])
 
--- what one thread with seed 0 leaves, after at most so many events
+-- what one thread with seed 0 leaves, after at most n events
 abbrev pub left_after : ℕ → State → State
 left_after zero w = w
 left_after (suc k) w = option_map_or (λ e. left_after k (after w e)) (next_of 0 w) w
@@ -69,7 +69,7 @@ pub record Ended (w : State) (s : ℕ) (end : StreamEnd) (sent delivered acked e
   pub has_acked : (tally_of w s).acked ≡ acked
   pub has_epochs : (tally_of w s).epochs ≡ epochs
 
--- what a block took: so many packets and samples, the first and the last sample
+-- what a block took: how many packets and samples, the first and the last sample
 abbrev pub line_is : ℕ → ℕ → ℕ → ℕ → ℕ → Line
 line_is block packets samples first last =
     record { block = block; packets = packets; samples = samples; first = Some first; last = Some last }

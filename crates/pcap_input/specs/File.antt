@@ -45,7 +45,7 @@ part_at port number at bytes (Ok None) rest = record { items = []; fault = Some 
 part_at port number at bytes (Ok (Some size)) rest = behind (item_of port number (frame_at bytes size) ∷ []) (rest (record_size + size - 1))
 part_at port number at bytes (Err reason) rest = record { items = []; fault = Some (at, bad reason) }
 
--- the records behind so many bytes of one, from a place on
+-- the records behind this number of bytes of one, from a place on
 unfoldable pub records_from : ℕ → Order → ℕ → ℕ → ℕ → List ℕ → File
 records_from port order number skip at [] = record { items = []; fault = None }
 records_from port order number (suc skip) at (byte ∷ bytes) = records_from port order number skip (at + 1) bytes

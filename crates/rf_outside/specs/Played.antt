@@ -28,7 +28,7 @@ abbrev pub moved_by : List ℕ → ℕ → ℕ → ℕ
 moved_by cuts call most =
     if nat_lt call (length cuts) then min most (max 1 (slice_index cuts call)) else most
 
--- so many bytes more are past the room
+-- this number of bytes more is past the room
 abbrev pub is_past : ℕ → List ℕ → ℕ → Bool
 is_past room bytes more = nat_lt (room - length bytes) more
 

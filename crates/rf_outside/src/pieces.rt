@@ -10,7 +10,7 @@ use rf_base::Memory;
 use std::alloc::Global;
 use thiserror::Error;
 
-/// At most so many bytes are read at once.
+/// At most this number of bytes is read at once.
 pub const PIECE: usize = 1 << 16;
 
 /// Whether a reader wants more bytes.

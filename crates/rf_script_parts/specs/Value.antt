@@ -22,7 +22,7 @@ abbrev pub ◌>>◌ : {A B : Type 0} → Result A Wrong → Result B Wrong → R
 Ok a >> next = next
 Err e >> next = Err e
 
--- a fault of the text, and no want of memory
+-- a fault of the text: memory didn't run out
 abbrev pub IsFault : Wrong → Type 0
 IsFault e = e ≡ Memory → ⊥
 
@@ -91,7 +91,7 @@ abbrev pub is_number : ℕ → Option ℕ → Bool
 is_number n None = false
 is_number n (Some m) = m == n
 
--- an array of so many items
+-- an array of this number of items
 abbrev pub has_items : ℕ → Data → Bool
 has_items n d = is_number n (option_map items_len (as_array d))
 

@@ -113,7 +113,7 @@ pub fn flag(field: Field, default: bool, object: &Value) -> Result<bool, Wrong>
     }
 }
 
-/// Whether it is an array of so many items.
+/// Whether it is an array of this number of items.
 #[tactic(auto, using(crate::proofs::Lengths::lengths))]
 pub fn has_items(count: usize, value: &Value) -> bool
     ensures { result ≡ has_items count (view value.now) }
@@ -124,7 +124,7 @@ pub fn has_items(count: usize, value: &Value) -> bool
     }
 }
 
-/// That it is an array of so many items.
+/// That it is an array of this number of items.
 #[tactic(auto, unfolding(crate::specs::Value::sized))]
 pub fn sized(told: Field, count: usize, value: &Value) -> Result<(), Wrong>
     ensures { result ≡ sized told count (view value.now) }

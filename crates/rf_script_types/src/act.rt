@@ -1,7 +1,7 @@
 use chdr_words::{Control, Epid};
 use rf_base::{Copyable, Items, Memory};
 
-/// When an act of a duplex is due: once so many packets of a stream were taken.
+/// When an act of a duplex is due: once this number of packets of a stream was taken.
 #[derive(Clone, Copy, Debug, PartialEq, Eq)]
 pub struct Due {
     pub stream: u16,

@@ -53,7 +53,7 @@ impl Layout {
         }
     }
 
-    /// Adds an edge and the stream along it, and answers the stream's number.
+    /// Adds an edge and the stream along it, and returns the stream's number.
     ///
     /// At `Err` the layout stays, and the graph may have the edge.
     pub fn connect(

@@ -36,7 +36,7 @@ impl Layout {
         None
     }
 
-    /// Places a block, and answers its number.
+    /// Places a block, and returns its number.
     ///
     /// At `Err` the layout stays, and the graph may have the block.
     pub fn place(&mut self, graph: &mut Graph, block: PlacedBlock) -> Result<u16, Memory>

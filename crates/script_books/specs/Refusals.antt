@@ -1,4 +1,4 @@
--- Which refusal a part's fault is, where it isn't want of memory.
+-- Which refusal a part's fault is, unless memory ran out.
 use Rattle.std.specs.Prelude.{Result, Ok, Err}
 use Rattle.rf_base.specs.declared.memory.Memory.{Memory}
 use Rattle.graph_core.specs.declared.fault.ConnectFault.{ConnectFault}

@@ -14,6 +14,6 @@ page_size = 8192
 abbrev pub line_size : ℕ
 line_size = 512
 
--- so many bytes more fit on the page
+-- this number of bytes more fits on the page
 abbrev pub HasRoom : List ℕ → ℕ → Type 0
 HasRoom page more = length page + more ≤ page_size

@@ -43,7 +43,7 @@ impl Page {
         self.bytes.as_slice()
     }
 
-    /// Whether so many bytes more fit.
+    /// Whether this number of bytes more fits.
     pub fn has_room(&self, more: usize) -> bool
         ensures { IsTrue result ↔ HasRoom self.now more }
     {
