@@ -171,7 +171,7 @@ after_feed kept port p = record kept {
 }
 
 -- a block as contracts see it: what it keeps, and what is made for the next packet
-pub record Seen : Type 0 where
+pub record BlockView : Type 0 where
   pub kept : Kept
   pub prepared : Option Prepared
 

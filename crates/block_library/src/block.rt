@@ -35,9 +35,9 @@ pub struct Block {
 impl Model for Block {
     ghost use Rattle.std.specs.Prelude.{◌≡◌, ◌<◌, ◌≤◌, ◌⊎◌, option_map, vec_len, vec_capacity};
     ghost use Rattle.block_library.specs.Blocks.{FitsKind};
-    ghost use Rattle.block_library.specs.Memory.{Seen, kept, lists, prepared_as};
+    ghost use Rattle.block_library.specs.Memory.{BlockView, kept, lists, prepared_as};
 
-    ghost Value = { Seen };
+    ghost Value = { BlockView };
 
     ghost view = { λ block. record {
       kept = kept block.kind block.item block.phase

@@ -45,7 +45,7 @@ use Rattle.net_streams.specs.Shows.{Shows, load_of, terms_of}
 use Rattle.net_flows.specs.Flows.{IsSteady}
 use Rattle.net_flows.specs.Forms.{IsPacketOn, Tells, item_on, most_on, timed_on}
 use Rattle.net_flows.proofs.Following.{one-flows}
-use Rattle.net_flows.proofs.Keeping.{Kept, Steps, TellingBy, foreign-from, foreign-message, foreign-to, kept-on, kept-same, steps-kept, steps-self, steps-unseen}
+use Rattle.net_flows.proofs.Keeping.{KeepsForm, Steps, TellingBy, foreign-from, foreign-message, foreign-to, kept-on, kept-same, steps-kept, steps-self, steps-unseen}
 use Rattle.net_flows.proofs.Telling.{message-tells, telling-over}
 
 pub ways-of : (w : State) (s : ℕ) → HaveWays w → s < length w.streams → HasWays w s
@@ -63,13 +63,13 @@ sends-unseen w s t next o vc e other foreign =
     unseen_twice w (enters_over o vc e.marked e.packet e.tag w) (on_stream s next (enters_over o vc e.marked e.packet e.tag w)) t
     (over-unseen w t o vc e foreign) (streams_unseen (enters_over o vc e.marked e.packet e.tag w) s t next other)
 
-sends-kept : (w : State) (s : ℕ) (next : Stream → Stream) (o : Option ℕ) (vc : ℕ) (e : Entry) → Kept w.plan s (stream_at w s) (next (stream_at w s)) →
-    (t : ℕ) → Kept w.plan t (stream_at w t) (stream_at (on_stream s next (enters_over o vc e.marked e.packet e.tag w)) t)
+sends-kept : (w : State) (s : ℕ) (next : Stream → Stream) (o : Option ℕ) (vc : ℕ) (e : Entry) → KeepsForm w.plan s (stream_at w s) (next (stream_at w s)) →
+    (t : ℕ) → KeepsForm w.plan t (stream_at w t) (stream_at (on_stream s next (enters_over o vc e.marked e.packet e.tag w)) t)
 sends-kept w s next None vc e here = kept-on w s next here
 sends-kept w s next (Some d) vc e here = kept-on w s next here
 
 sends-steps : (w : State) (s : ℕ) (next : Stream → Stream) (o : Option ℕ) (vc : ℕ) (e : Entry) → TellingBy w.plan w →
-    ((t : ℕ) → t < length w.streams → t ≢ s → IsForeign (plan_at w.plan t) e) → Tells w.plan e e.packet.body → Kept w.plan s (stream_at w s) (next (stream_at w s)) →
+    ((t : ℕ) → t < length w.streams → t ≢ s → IsForeign (plan_at w.plan t) e) → Tells w.plan e e.packet.body → KeepsForm w.plan s (stream_at w s) (next (stream_at w s)) →
     (s < length w.streams → (st : OneStream Packet) → IsRun (terms_of (plan_at w.plan s)) st → Shows w s (is_closed (front w) s) st →
     Acts w (on_stream s next (enters_over o vc e.marked e.packet e.tag w)) s (is_closed (front w) s) st) →
     Steps w (on_stream s next (enters_over o vc e.marked e.packet e.tag w))
@@ -115,7 +115,7 @@ number-of w s closed st run shows =
     ap (λ (c : Core Packet). next_number c.sender) (sym shows.core) ∙ numbers_go_on terms st run
     ∙ ap (λ (c : Core Packet). number_at terms (length c.sent)) shows.core ∙ ap (number_at terms) (length-map (stream_at w s).sent load_of)
 
-sent-kept : (plan : RunPlan) (s : ℕ) (st : Stream) (p : Packet) (rest : List Packet) → st.ready ≡ p ∷ rest → Kept plan s st (sends_first (plan_at plan s) p rest st)
+sent-kept : (plan : RunPlan) (s : ℕ) (st : Stream) (p : Packet) (rest : List Packet) → st.ready ≡ p ∷ rest → KeepsForm plan s st (sends_first (plan_at plan s) p rest st)
 sent-kept plan s st p rest is = record {
   form = λ h. record { ready = All-rest (IsPacketOn plan s) p rest st.ready is h.ready; given = h.given };
   clear = λ h. never (subst (λ (ready : List Packet). IsTrue (not (has_packet ready))) is h);

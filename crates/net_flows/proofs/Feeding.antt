@@ -41,7 +41,7 @@ use Rattle.net_flows.specs.Lasting.{IsSound}
 use Rattle.net_flows.proofs.Closing.{both, joined}
 use Rattle.net_flows.proofs.Fitting.{GivesForm, IsOfBlock, all-fit, gives-form, into-form, on-producer}
 use Rattle.net_flows.proofs.Following.{FlowsBy, flows-on, none-flows, one-flows}
-use Rattle.net_flows.proofs.Keeping.{Kept, Steps, clear_in, kept-on, kept-same}
+use Rattle.net_flows.proofs.Keeping.{KeepsForm, Steps, clear_in, kept-on, kept-same}
 use Rattle.net_flows.proofs.Ports.{IsInto, IsOut, begins-at, into-of, no-tx, out-of}
 use Rattle.net_flows.proofs.Telling.{telling-any}
 
@@ -211,7 +211,7 @@ feed-packet w b i s p steady lt into untaken at = record {
         let few : (front_at (front w) s).taken < (front_at (front w) s).given = subst (λ (f : StreamFront). f.taken < f.given) (sym (fronts.stream w s)) untaken in
         (not-closed (front w) b i s j t into not_tx few out, all-fit w.tree w.plan t steady.plan out.there packets (on_plan j packets each t is))
 
-    kept : (u : ℕ) → Kept w.plan u (stream_at w u) (stream_at w1 u)
+    kept : (u : ℕ) → KeepsForm w.plan u (stream_at w u) (stream_at w1 u)
     kept = kept-on w s next (kept-same w.plan s (stream_at w s) (next (stream_at w s)) refl refl)
 
     elsewhere : (a k : ℕ) (epid : Epid) (u : ℕ) → IsTrue (is_tx (block_at w.plan a).kind) → slice_get (block_at w.plan a).outs k ≡ Some epid → stream_from w.plan epid ≡ Some u →

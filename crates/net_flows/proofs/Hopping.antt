@@ -38,7 +38,7 @@ use Rattle.net_flows.specs.Flows.{IsSteady}
 use Rattle.net_flows.specs.Forms.{IsPacketOn, Tells, TellsOrder, TellsPlace, TellsReport}
 use Rattle.net_flows.proofs.Entering.{ways-of}
 use Rattle.net_flows.proofs.Following.{none-flows, one-flows}
-use Rattle.net_flows.proofs.Keeping.{Kept, Steps, TellingBy, foreign-from, foreign-message, foreign-to, kept-on, kept-same, kept-self, some-same, steps-kept, steps-self, steps-unseen}
+use Rattle.net_flows.proofs.Keeping.{KeepsForm, Steps, TellingBy, foreign-from, foreign-message, foreign-to, kept-on, kept-same, kept-self, some-same, steps-kept, steps-self, steps-unseen}
 use Rattle.net_flows.proofs.Telling.{telling-any, telling-front, telling-joins, telling-leaves, telling-message}
 
 -- the run of stream t goes on by an act
@@ -51,7 +51,7 @@ IsOnly w t e = (s : ℕ) → s < length w.streams → s ≢ t → IsForeign (pla
 
 -- the front entry comes to stream t
 came-steps : (w : State) (q t : ℕ) (e : Entry) (rest : List Entry) (next : Stream → Stream) → queue_at w.queues q ≡ e ∷ rest → TellingBy w.plan w → IsOnly w t e →
-    Kept w.plan t (stream_at w t) (next (stream_at w t)) → after w (event.Hop q) ≡ taken_in w t q rest next → ActsAt w (after w (event.Hop q)) t → Steps w (after w (event.Hop q))
+    KeepsForm w.plan t (stream_at w t) (next (stream_at w t)) → after w (event.Hop q) ≡ taken_in w t q rest next → ActsAt w (after w (event.Hop q)) t → Steps w (after w (event.Hop q))
 came-steps w q t e rest next is telling only kept comes itself =
     subst (Steps w) (sym comes)
     (steps-kept w (taken_in w t q rest next)
@@ -102,7 +102,7 @@ kept-form plan t IsKept p given here each = All-push (IsPacketOn plan t) given p
 kept-form plan t (GapAt wanted got) p given here each = each
 kept-form plan t Discarded p given here each = each
 
-got-kept : (plan : RunPlan) (t : ℕ) (p : Packet) (st : Stream) → IsPacketOn plan t p → Kept plan t st (gets p st)
+got-kept : (plan : RunPlan) (t : ℕ) (p : Packet) (st : Stream) → IsPacketOn plan t p → KeepsForm plan t st (gets p st)
 got-kept plan t p st here = record {
   form = λ h. record { ready = h.ready; given = kept-form plan t (arrival st.receiver.broken (expected st.receiver) p.seq) p st.given here h.given };
   clear = λ h. h;
@@ -237,14 +237,14 @@ hop-steps w q steady ways placed = hop-any w q (queue_at w.queues q) refl steady
 
 -- ---- a Lose
 
-any-kept : (w : State) (o : Option ℕ) (e : Entry) → (s : ℕ) → Kept w.plan s (stream_at w s) (stream_at (on_any_stream o (loses e) w) s)
+any-kept : (w : State) (o : Option ℕ) (e : Entry) → (s : ℕ) → KeepsForm w.plan s (stream_at w s) (stream_at (on_any_stream o (loses e) w) s)
 any-kept w None e s = kept-self w.plan s (stream_at w s)
 any-kept w (Some t) e s = kept-on w t (loses e) (kept-same w.plan t (stream_at w t) (loses e (stream_at w t)) refl refl) s
 
-lost-kept : (w : State) (q : ℕ) (e : Entry) (rest : List Entry) → queue_at w.queues q ≡ e ∷ rest → (s : ℕ) → Kept w.plan s (stream_at w s) (stream_at (after w (event.Lose q)) s)
+lost-kept : (w : State) (q : ℕ) (e : Entry) (rest : List Entry) → queue_at w.queues q ≡ e ∷ rest → (s : ℕ) → KeepsForm w.plan s (stream_at w s) (stream_at (after w (event.Lose q)) s)
 unfolding after
 lost-kept w q e rest is s =
-    subst (λ (es : List Entry). Kept w.plan s (stream_at w s) (stream_at (loses_front q es w) s)) (sym is)
+    subst (λ (es : List Entry). KeepsForm w.plan s (stream_at w s) (stream_at (loses_front q es w) s)) (sym is)
     (any-kept (leaves q rest w) (stream_of w e.packet e.packet.body) e s)
 
 lost-telling : (w : State) (q : ℕ) (e : Entry) (rest : List Entry) → queue_at w.queues q ≡ e ∷ rest → TellingBy w.plan w → TellingBy w.plan (after w (event.Lose q))

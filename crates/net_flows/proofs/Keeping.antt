@@ -38,29 +38,29 @@ pub record Steps (w v : State) : Type 0 where
       IsTrue (list_all (clear_in w.plan v) (block_at w.plan b).outs)
 
 -- a stream keeps its form, and nothing becomes ready
-pub record Kept (plan : RunPlan) (s : ℕ) (old new : Stream) : Type 0 where
+pub record KeepsForm (plan : RunPlan) (s : ℕ) (old new : Stream) : Type 0 where
   pub form : HasForm plan s old → HasForm plan s new
   pub clear : IsTrue (not (has_packet old.ready)) → IsTrue (not (has_packet new.ready))
 
-pub kept-self : (plan : RunPlan) (s : ℕ) (st : Stream) → Kept plan s st st
+pub kept-self : (plan : RunPlan) (s : ℕ) (st : Stream) → KeepsForm plan s st st
 kept-self plan s st = record { form = λ h. h; clear = λ h. h }
 
-pub kept-same : (plan : RunPlan) (s : ℕ) (old new : Stream) → new.ready ≡ old.ready → new.given ≡ old.given → Kept plan s old new
+pub kept-same : (plan : RunPlan) (s : ℕ) (old new : Stream) → new.ready ≡ old.ready → new.given ≡ old.given → KeepsForm plan s old new
 kept-same plan s old new ready given = record {
   form = λ h. record { ready = rw ready h.ready; given = rw given h.given };
   clear = λ h. rw ready h;
 }
 
-pub kept-unseen : (w v : State) (s : ℕ) → IsUnseen w v s → Kept w.plan s (stream_at w s) (stream_at v s)
-kept-unseen w v s unseen = subst (Kept w.plan s (stream_at w s)) (sym unseen.stream) (kept-self w.plan s (stream_at w s))
+pub kept-unseen : (w v : State) (s : ℕ) → IsUnseen w v s → KeepsForm w.plan s (stream_at w s) (stream_at v s)
+kept-unseen w v s unseen = subst (KeepsForm w.plan s (stream_at w s)) (sym unseen.stream) (kept-self w.plan s (stream_at w s))
 
 -- stream t changes
-pub kept-on : (w : State) (t : ℕ) (next : Stream → Stream) → Kept w.plan t (stream_at w t) (next (stream_at w t)) →
-    (s : ℕ) → Kept w.plan s (stream_at w s) (get_or (set w.streams t (next (stream_at w t))) s idle)
+pub kept-on : (w : State) (t : ℕ) (next : Stream → Stream) → KeepsForm w.plan t (stream_at w t) (next (stream_at w t)) →
+    (s : ℕ) → KeepsForm w.plan s (stream_at w s) (get_or (set w.streams t (next (stream_at w t))) s idle)
 kept-on w t next here =
-    one-set {B = Stream} (λ s new old. Kept w.plan s old new) w.streams w.streams idle idle (next (stream_at w t)) t (λ s. kept-self w.plan s (stream_at w s)) here
+    one-set {B = Stream} (λ s new old. KeepsForm w.plan s old new) w.streams w.streams idle idle (next (stream_at w t)) t (λ s. kept-self w.plan s (stream_at w s)) here
 
-pub steps-kept : (w v : State) → FlowsTo w v → TellingBy w.plan v → ((s : ℕ) → Kept w.plan s (stream_at w s) (stream_at v s)) → Steps w v
+pub steps-kept : (w v : State) → FlowsTo w v → TellingBy w.plan v → ((s : ℕ) → KeepsForm w.plan s (stream_at w s) (stream_at v s)) → Steps w v
 steps-kept w v flows telling kept = record {
   flows = flows;
   telling = telling;

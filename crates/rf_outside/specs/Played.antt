@@ -10,7 +10,7 @@ pub record Played : Type 0 where
   pub faults : ℕ
 
 -- a sink: the first `room` bytes that were written, and whether more came
-pub record Kept : Type 0 where
+pub record SinkSeen : Type 0 where
   pub bytes : List ℕ
   pub room : ℕ
   pub past : Bool

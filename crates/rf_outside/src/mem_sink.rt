@@ -25,9 +25,9 @@ pub struct MemSink {
 
 impl Model for MemSink {
     ghost use Rattle.std.specs.Prelude.{◌≤◌, vec_len, vec_capacity};
-    ghost use Rattle.rf_outside.specs.Played.{Kept};
+    ghost use Rattle.rf_outside.specs.Played.{SinkSeen};
 
-    ghost Value = { Kept };
+    ghost Value = { SinkSeen };
 
     ghost view = { λ s. record {
       bytes = s.bytes.items;
