@@ -6,7 +6,9 @@ mod OnwardLemmas
 mod SizesLemmas
 mod ChoosingLemmas
 mod EventLemmas
+mod WorkLemmas
 mod StillLemmas
+mod NodeStillLemmas
 mod HopLemmas
 mod BegunLemmas
 mod BegunLaws

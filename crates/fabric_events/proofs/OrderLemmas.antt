@@ -98,3 +98,32 @@ order_asks p s op h =
     let closed = is_closed (front_now p) s in
     let none : by-front flow (front_now_of n) true true op ≡ false = sym (now-is flow n true true op) ∙ h in
     sym (order_is p s op) ∙ now-is flow n quiet closed op ∙ falls flow n quiet closed op none
+
+closed-ping : (a q n k more : Bool) → (more ≡ false → k ≡ false) → (a && (q && (n && more))) ≡ false → (a && (q && (n && k))) ≡ false
+closed-ping true true true k false fall h = fall refl
+closed-ping true true true k true fall h = cc
+closed-ping true true false k more fall h = refl
+closed-ping true false n k more fall h = refl
+closed-ping false q n k more fall h = refl
+
+waits : (flow : Flow) (n : StreamNow) (quiet closed : Bool) (op : CmdOp) → by-front flow (front_now_of n) quiet true op ≡ false
+    → by-front flow (front_now_of n) quiet closed op ≡ false
+waits flow n quiet closed Init h = h
+waits flow n quiet closed Ping h =
+    closed-ping (is_running n.sender.state) quiet (not (is_none n.sender.outstanding)) (is_stuck flow (front_now_of n) closed n.ready)
+    (is_stuck flow (front_now_of n) true n.ready) (stuck-less flow (front_now_of n) closed n.ready) h
+waits flow n quiet closed Resync h = h
+waits flow n quiet closed (Other code) h = refl
+
+-- what isn't allowed of a stream as it is, even where its producer is finished, isn't allowed
+pub order_waits : (p : Present) (s : ℕ) (op : CmdOp) →
+    may_order (now_at p.streams s).sender (is_quiet (front_now p) s)
+    (is_stuck (plan_at p.plan s).flow (front_now_of (now_at p.streams s)) true (now_at p.streams s).ready) op ≡ false
+    → can_order (front_now p) s op ≡ false
+order_waits p s op h =
+    let flow = (plan_at p.plan s).flow in
+    let n = now_at p.streams s in
+    let quiet = is_quiet (front_now p) s in
+    let closed = is_closed (front_now p) s in
+    let none : by-front flow (front_now_of n) quiet true op ≡ false = sym (now-is flow n quiet true op) ∙ h in
+    sym (order_is p s op) ∙ now-is flow n quiet closed op ∙ waits flow n quiet closed op none

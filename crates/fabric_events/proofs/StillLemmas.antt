@@ -1,5 +1,5 @@
--- At which places of the order of choosing no event can happen, by which queues hold an entry.
-use Rattle.std.proofs.Common.{◌≡◌, ◌⊎◌, ℕ, zero, suc, ◌+◌, ◌-◌, ◌*◌, ◌<◌, ◌≤◌, Bool, true, false, List, [], ◌∷◌, ◌++◌, length, refl, sym, ◌∙◌, ap, subst, Option, None, Some, inl, inr, arith}
+-- At which places of the order of choosing no event can happen, by which queues hold and lose an entry.
+use Rattle.std.proofs.Common.{◌≡◌, ◌⊎◌, ℕ, zero, suc, ◌+◌, ◌-◌, ◌*◌, ◌<◌, ◌≤◌, true, false, List, [], ◌∷◌, ◌++◌, length, refl, sym, ◌∙◌, ap, subst, Option, Some, inl, inr, arith}
 use Rattle.std.specs.Prelude.{slice_get}
 use Rattle.std.specs.List.{flat_map, range_with_len}
 use Rattle.std.proofs.lemmas.Bool.{cases_order, false≢true}
@@ -7,11 +7,11 @@ use Rattle.fabric_flags.specs.Set.{IsNext, NoneFrom}
 use Rattle.net_machine.specs.declared.event.Event.{Event}
 use Rattle.net_machine.specs.declared.event.Event.TheVariants.{Ask, Enter, Hop, Lose, Reply, Report}
 use Rattle.net_machine.specs.Choice.{commands_of, feeds_of, for_each}
-use Rattle.net_machine.specs.Conditions.{can_hop, can_lose, may}
+use Rattle.net_machine.specs.Conditions.{can_hop, may}
 use Rattle.net_machine.specs.Front.{Front, Queued}
 use Rattle.net_present.specs.Onward.{entries_at}
 use Rattle.net_present.specs.Present.{Present, front_now}
-use Rattle.fabric_lists.specs.QueuesView.{holds, is_held}
+use Rattle.fabric_lists.specs.QueuesView.{holds, is_held, loses}
 use Rattle.fabric_events.specs.declared.candidates.Sizes.{Sizes}
 use Rattle.fabric_events.specs.Choosing.{IsStill, doable_now, sizes_of}
 use Rattle.fabric_events.specs.Sizes.{candidate_count, candidates_in, first_loss, first_reply}
@@ -68,18 +68,14 @@ hop_at s q h =
     (behind loses hops s.queues (k - s.nodes - s.nodes) (Some (Hop q)) (each_length Lose s.queues) (omega arith)
     (ap (λ (n : ℕ). slice_get hops n) e ∙ each_at Hop s.queues q h))))
 
-no_lose : (es : List Queued) → is_held es ≡ false → can_lose es ≡ false
-no_lose [] h = refl
-no_lose (e ∷ es) h = absurd (false≢true (sym h))
-
 no_hop : (f : Front) (q : ℕ) (es : List Queued) → is_held es ≡ false → can_hop f q es ≡ false
 no_hop f q [] h = refl
 no_hop f q (e ∷ es) h = absurd (false≢true (sym h))
 
--- an empty queue neither loses an entry nor lets one hop
-idle_lose : (p : Present) (q : ℕ) → holds p.queues q ≡ false → doable_now p (Lose q) ≡ false
+-- a queue whose front entry isn't marked loses none, and an empty one lets none hop
+idle_lose : (p : Present) (q : ℕ) → loses p.queues q ≡ false → doable_now p (Lose q) ≡ false
 unfolding doable_now may
-idle_lose p q h = no_lose (entries_at p.queues q) h
+idle_lose p q h = h
 
 idle_hop : (p : Present) (q : ℕ) → holds p.queues q ≡ false → doable_now p (Hop q) ≡ false
 unfolding doable_now may
@@ -114,14 +110,26 @@ still_by p s k m n i e first rest from to is (inr (inr past)) = rest i e (omega 
 pub still_on : (p : Present) (s : Sizes) (k m n : ℕ) → IsStill p s k m → IsStill p s (m + (k - m)) n → IsStill p s k n
 still_on p s k m n first rest = λ i e from to is. still_by p s k m n i e first rest from to is (cases_order i m)
 
+-- up to the first Lose, and from there on
+pub still_through : (p : Present) (s : Sizes) (k l n : ℕ) → l ≡ first_loss s → k ≤ l → IsStill p s k (first_loss s) → IsStill p s l n
+    → IsStill p s k n
+still_through p s k l n at before first rest =
+    let same : l ≡ l + (k - l) = omega arith in
+    still_on p s k l n (subst (IsStill p s k) (sym at) first) (subst (λ (m : ℕ). IsStill p s m n) same rest)
+
 held_within : (queues : List (List Queued)) (q : ℕ) → holds queues q ≡ true → q < length queues
 held_within [] q h = absurd (false≢true h)
 held_within (es ∷ queues) zero h = omega arith
 held_within (es ∷ queues) (suc q) h = let rest = held_within queues q h in omega arith
 
+marked_within : (queues : List (List Queued)) (q : ℕ) → loses queues q ≡ true → q < length queues
+marked_within [] q h = absurd (false≢true h)
+marked_within (es ∷ queues) zero h = omega arith
+marked_within (es ∷ queues) (suc q) h = let rest = marked_within queues q h in omega arith
+
 -- of a present with these sizes, whose first Lose stands at place l
 module _ (p : Present) (s : Sizes) (l : ℕ) (many : s ≡ sizes_of p) (at : l ≡ first_loss s) where
-  still_losses : (a b : ℕ) → b ≤ s.queues → ((q : ℕ) → a ≤ q → q < b → holds p.queues q ≡ false) → IsStill p s (l + a) (l + b)
+  still_losses : (a b : ℕ) → b ≤ s.queues → ((q : ℕ) → a ≤ q → q < b → loses p.queues q ≡ false) → IsStill p s (l + a) (l + b)
   still_losses a b few idle =
       still_run p s Lose l a b (λ q from to. ap (λ (n : ℕ). slice_get (candidates_in s) (n + q)) at ∙ lose_at s q (omega arith))
       (λ q from to. idle_lose p q (idle q from to))
@@ -140,13 +148,20 @@ module _ (p : Present) (s : Sizes) (l : ℕ) (many : s ≡ sizes_of p) (at : l �
       let queues : s.queues ≡ length p.queues = ap (λ (z : Sizes). z.queues) many in
       omega arith
 
-  -- up to the next queue that may lose an entry, and past the last
-  pub loss_next : (k q : ℕ) → IsStill p s k l → IsNext (holds p.queues) (k - l) q → IsStill p s k (l + q)
+  -- so is one that loses an entry
+  pub loss_within : (q : ℕ) → loses p.queues q ≡ true → q < s.queues
+  loss_within q h =
+      let there : q < length p.queues = marked_within p.queues q h in
+      let queues : s.queues ≡ length p.queues = ap (λ (z : Sizes). z.queues) many in
+      omega arith
+
+  -- up to the next queue that loses an entry, and past the last
+  pub loss_next : (k q : ℕ) → IsStill p s k l → IsNext (loses p.queues) (k - l) q → IsStill p s k (l + q)
   loss_next k q before next =
-      let there = queue_within q next.here in
+      let there = loss_within q next.here in
       still_on p s k l (l + q) before (still_losses (k - l) q (omega arith) next.none)
 
-  pub past_losses : (k : ℕ) → IsStill p s k l → NoneFrom (holds p.queues) (k - l) → IsStill p s k (l + s.queues)
+  pub past_losses : (k : ℕ) → IsStill p s k l → NoneFrom (loses p.queues) (k - l) → IsStill p s k (l + s.queues)
   past_losses k before none =
       still_on p s k l (l + s.queues) before (still_losses (k - l) s.queues (omega arith) (λ q low high. none q low))
 

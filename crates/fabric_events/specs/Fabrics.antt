@@ -11,7 +11,7 @@ use Rattle.net_machine.specs.declared.plan.BlockPlan.{BlockPlan}
 use Rattle.net_present.specs.Present.{BlockNow, Present}
 use Rattle.fabric_lists.specs.BlocksView.{blocks_of}
 use Rattle.fabric_lists.specs.Opened.{txs_in}
-use Rattle.fabric_lists.specs.SitesView.{shapes_in, sites_of}
+use Rattle.fabric_lists.specs.SitesView.{shapes_in, sites_of, working_in}
 use Rattle.fabric_lists.specs.StreamsView.{streams_of}
 use Rattle.fabric_events.specs.declared.fabric.Fabric.{Fabric}
 
@@ -41,11 +41,13 @@ kind_planned b = b.kind
 abbrev pub item_planned : BlockPlan → ℕ
 item_planned b = b.item
 
--- there is a queue, a node, a stream and a block for each of the tree and the plan, and each is made for it
+-- There is a queue, a node, a stream and a block for each of the tree and the plan, and each is made for it. Exactly the
+-- flags of the nodes are set that a request or an answer is to leave.
 pub record IsSound (f : Fabric) : Type 0 where
   pub queues : length f.queues.entries ≡ queue_count f.wires
   pub room : f.queues.room ≡ f.wires.room
   pub shapes : (sites_of f.sites.items).shapes ≡ shapes_in f.wires
+  pub working : f.working ≡ working_in (sites_of f.sites.items).nodes
   pub plans : (streams_of f.streams.items).plans ≡ f.plan.streams
   pub txs : (streams_of f.streams.items).txs ≡ txs_in f.plan
   pub kinds : map kind_now (blocks_of f.blocks.items) ≡ map kind_planned f.plan.blocks

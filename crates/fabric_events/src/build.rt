@@ -1,9 +1,13 @@
 //! How a net is built.
-ghost use Rattle.std.specs.Prelude.{◌≡◌, IfOk};
+ghost use Rattle.std.specs.Prelude.{◌≡◌, IfOk, length, map};
+ghost use Rattle.std.specs.List.{range_with_len};
+ghost use Rattle.net_machine.specs.Begin.{built_node};
+ghost use Rattle.fabric_lists.specs.SitesView.{working_in};
 ghost use Rattle.fabric_events.specs.Begun.{built_now};
 ghost use Rattle.fabric_events.specs.Fabrics.{IsSound, present_of};
 
 use crate::fabric::Fabric;
+use fabric_flags::Flags;
 use fabric_lists::{Queues, built_sites};
 use fabric_nodes::Wires;
 use net_machine::RunPlan;
@@ -23,6 +27,7 @@ impl Fabric {
         let plan = topology.plan();
         let queues = Queues::new(alloc, 4 * plan.links.len(), plan.room)?;
         let sites = built_sites(alloc, topology, &wires, routed)?;
+        let working = idle_flags(alloc, topology, routed)?;
         Ok(Fabric {
             wires,
             plan: RunPlan {
@@ -32,6 +37,7 @@ impl Fabric {
             },
             queues,
             sites,
+            working,
             streams: Vec::new(alloc),
             blocks: Vec::new(alloc),
             faults: Items::new(alloc),
@@ -39,4 +45,14 @@ impl Fabric {
             answers: 0,
         })
     }
+}
+
+/// The flags of the nodes of a tree as they are built: nothing is to leave any.
+fn idle_flags(alloc: Global, topology: &Topology, routed: bool) -> Result<Flags, Memory>
+    ensures { IfOk result (λ flags. flags
+        ≡ working_in (map (built_node topology.now routed) (range_with_len 0 (length topology.now.nodes)))) }
+{
+    let plan = topology.plan();
+    let flags = Flags::new(alloc, plan.nodes.len())?;
+    Ok(flags)
 }

@@ -1,7 +1,7 @@
 ghost use Rattle.std.specs.Prelude.{◌≡◌, ◌<◌, ℕ, length, slice_get, Some};
 ghost use Rattle.net_machine.specs.declared.event.Event.TheVariants.{Command};
 ghost use Rattle.net_machine.specs.Choice.{commands_of};
-ghost use Rattle.fabric_events.specs.Sizes.{candidate_count, candidates_in, first_loss};
+ghost use Rattle.fabric_events.specs.Sizes.{candidate_count, candidates_in, first_loss, first_reply};
 
 use chdr_words::CmdOp;
 use net_machine::Event;
@@ -25,6 +25,13 @@ impl Sizes {
             + 2 * self.blocks as usize
             + 2 * self.nodes as usize
             + 2 * self.queues as usize
+    }
+
+    /// The place of the first Reply, behind the events of streams and blocks.
+    pub fn replies(self) -> usize
+        ensures { result ≡ first_reply self }
+    {
+        5 * self.streams as usize + 2 * self.blocks as usize
     }
 
     /// The place of the first Lose, behind the events of streams, blocks and nodes.

@@ -1,10 +1,10 @@
 //! Which events can happen, and which is chosen.
-ghost use Rattle.std.specs.Prelude.{◌≡◌, ◌<◌, ◌≤◌, ◌^◌, length, slice_get};
+ghost use Rattle.std.specs.Prelude.{◌≡◌, ◌<◌, ◌≤◌, ◌^◌, length, slice_get, IfSome, MatchOption};
 ghost use Rattle.net_machine.specs.Conditions.{may};
 ghost use Rattle.net_present.specs.Present.{front_now};
 ghost use Rattle.fabric_events.specs.Choosing.{IsStill, chosen_now, doable_list, doable_now, is_handed, is_offered, seed_now, sizes_of};
 ghost use Rattle.fabric_events.specs.Fabrics.{IsSound, present_of};
-ghost use Rattle.fabric_events.specs.Sizes.{candidate_count};
+ghost use Rattle.fabric_events.specs.Sizes.{candidate_count, first_loss, first_reply};
 
 use crate::Sizes;
 use crate::fabric::Fabric;
@@ -86,7 +86,7 @@ impl Fabric {
 }
 
 impl Fabric {
-    /// The first place from k on whose event isn't one of an empty queue; without one the number of places.
+    /// The first place from k on whose event isn't of a node or a queue that has none; without one the number of places.
     fn next_place(&self, sizes: Sizes, k: usize) -> usize
         requires sound { IsSound self.now }
         requires sizes { sizes ≡ sizes_of (present_of self.now) }
@@ -96,11 +96,53 @@ impl Fabric {
         ensures still { IsStill (present_of self.now) sizes k result }
     {
         let losses = sizes.losses();
-        if k < losses {
+        if k >= losses {
+            return self.next_at_queue(sizes, k);
+        }
+        if k < sizes.replies() {
             return k;
         }
+        match self.next_at_node(sizes, k) {
+            Some(place) => place,
+            None => self.next_at_queue(sizes, losses),
+        }
+    }
+
+    /// The first place from k on of a Reply or an Ask of a node with something to do; k is past the feeds.
+    fn next_at_node(&self, sizes: Sizes, k: usize) -> Option<usize>
+        requires sound { IsSound self.now }
+        requires sizes { sizes ≡ sizes_of (present_of self.now) }
+        requires from { first_reply sizes ≤ k }
+        ensures from { IfSome result (λ n. k ≤ n) }
+        ensures within { IfSome result (λ n. n ≤ candidate_count sizes) }
+        ensures still { MatchOption result
+            (IsStill (present_of self.now) sizes k (first_loss sizes))
+            (λ n. IsStill (present_of self.now) sizes k n) }
+    {
+        let replies = sizes.replies();
+        if let Some(x) = self.working.next_from(k - replies) {
+            return Some(replies + x);
+        }
+        let asks = replies + sizes.nodes as usize;
+        match self.working.next_from(k.saturating_sub(asks)) {
+            Some(x) => Some(asks + x),
+            None => None,
+        }
+    }
+
+    /// The first place from k on of a Lose of a marked entry or a Hop of a queue that holds one; k is past the asks.
+    fn next_at_queue(&self, sizes: Sizes, k: usize) -> usize
+        requires sound { IsSound self.now }
+        requires sizes { sizes ≡ sizes_of (present_of self.now) }
+        requires past { first_loss sizes ≤ k }
+        requires there { k ≤ candidate_count sizes }
+        ensures from { k ≤ result }
+        ensures within { result ≤ candidate_count sizes }
+        ensures still { IsStill (present_of self.now) sizes k result }
+    {
+        let losses = sizes.losses();
         let hops = losses + sizes.queues as usize;
-        if let Some(q) = self.queues.next_held(k - losses) {
+        if let Some(q) = self.queues.next_marked(k - losses) {
             return losses + q;
         }
         match self.queues.next_held(k.saturating_sub(hops)) {
@@ -149,7 +191,7 @@ impl Fabric {
 
     /// The event that a seed chooses among those that can happen.
     ///
-    /// It looks at those of streams, blocks and nodes, and of the queues that hold an entry.
+    /// It looks at those of streams and blocks, of nodes with something to do, and of queues that hold or lose an entry.
     #[tactic(auto, using(crate::proofs::ChoosingLemmas::zero_stays))]
     pub fn choose(&self, seed: &mut Seed) -> Option<Event>
         requires { IsSound self.now }

@@ -43,7 +43,7 @@ impl Fabric {
         match link {
             Some(d) => self
                 .queues
-                .push(2 * d as usize + vc as usize, Entry { packet, marked }),
+                .enter(2 * d as usize + vc as usize, Entry { packet, marked }),
             None => {}
         }
     }
@@ -159,7 +159,11 @@ impl Fabric {
         let marked = named::is_named_request(&self.faults, self.requests);
         self.requests += 1;
         match sites::take_request(&mut self.sites, x as usize) {
-            Some(packet) => self.enter_over(link, 0, marked, packet),
+            Some(packet) => {
+                let has_work = sites::has_work(self.sites.as_slice(), x as usize);
+                self.working.set(x as usize, has_work);
+                self.enter_over(link, 0, marked, packet)
+            }
             None => unreachable!(),
         }
     }
@@ -182,7 +186,11 @@ impl Fabric {
         let marked = named::is_named_answer(&self.faults, self.answers);
         self.answers += 1;
         match sites::take_pending(&mut self.sites, x as usize) {
-            Some(packet) => self.enter_over(link, 1, marked, packet),
+            Some(packet) => {
+                let has_work = sites::has_work(self.sites.as_slice(), x as usize);
+                self.working.set(x as usize, has_work);
+                self.enter_over(link, 1, marked, packet)
+            }
             None => unreachable!(),
         }
     }
@@ -248,6 +256,8 @@ impl Fabric {
             ≡ on_node_now x (λ n. record n { requests = n.requests ++ packet ∷ [] }) (present_of self.old)) }
         ensures err { OnErr result (present_of self.new ≡ present_of self.old) }
     {
-        sites::ask(&mut self.sites, x, packet)
+        sites::ask(&mut self.sites, x, packet)?;
+        self.working.set(x, true);
+        Ok(())
     }
 }

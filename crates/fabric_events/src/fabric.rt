@@ -1,3 +1,4 @@
+use fabric_flags::Flags;
 use fabric_lists::Queues;
 use fabric_nodes::{Site, Wires};
 use fabric_parts::{BlockPart, StreamPart};
@@ -11,6 +12,8 @@ pub struct Fabric {
     pub plan: RunPlan,
     pub queues: Queues,
     pub sites: Vec<Site>,
+    /// Which nodes have a request or an answer that is to leave them.
+    pub working: Flags,
     pub streams: Vec<StreamPart>,
     pub blocks: Vec<BlockPart>,
     /// The packets to lose.

@@ -45,7 +45,10 @@ impl Fabric {
         ensures present { present_of self.new ≡ pends_now x packet (present_of self.old) }
     {
         match self.route_from(x, packet.dst) {
-            Some(_) => sites::pend(&mut self.sites, x as usize, packet),
+            Some(_) => {
+                sites::pend(&mut self.sites, x as usize, packet);
+                self.working.set(x as usize, true);
+            }
             None => {}
         }
     }

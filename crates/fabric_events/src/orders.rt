@@ -14,7 +14,9 @@ use plan_lookups::{is_rx, stream_at, stream_into};
 
 impl Fabric {
     /// Whether a command may be sent, as far as its stream tells.
-    #[tactic(auto, using(crate::proofs::OrderLemmas::order_is, crate::proofs::OrderLemmas::order_asks))]
+    ///
+    /// What costs most is looked at last: whether the stream is quiet, and whether its producer is finished.
+    #[tactic(auto, using(crate::proofs::OrderLemmas::order_is, crate::proofs::OrderLemmas::order_asks, crate::proofs::OrderLemmas::order_waits))]
     fn can_order(&self, s: usize, op: CmdOp) -> bool
         requires sound { IsSound self.now }
         requires there { s < length self.now.plan.streams }
@@ -24,6 +26,9 @@ impl Fabric {
             return false;
         }
         let quiet = self.is_quiet(s);
+        if !stream_reads::may_order(self.streams.as_slice(), s, op, quiet, true) {
+            return false;
+        }
         let closed = self.is_closed(s);
         stream_reads::may_order(self.streams.as_slice(), s, op, quiet, closed)
     }

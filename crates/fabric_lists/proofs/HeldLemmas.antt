@@ -1,7 +1,6 @@
--- Which queues hold an entry, by their flags, and what follows of the others.
+-- Which queues hold an entry or lose one, by their flags, and what follows of the others.
 use Rattle.std.proofs.Common.{◌≡◌, ◌⊎◌, ℕ, zero, suc, ◌+◌, ◌<◌, Bool, true, false, List, [], ◌∷◌, ◌++◌, length, refl, sym, ◌∙◌, ap, subst, Option, None, Some, get_or, set, inl, inr, arith}
 use Rattle.std.specs.Prelude.{◌&&◌, All, MatchOption, map, nat_lt, replicate}
-use Rattle.std.specs.List.{list_all}
 use Rattle.std.proofs.Math.ListN.{get_or-map}
 use Rattle.std.proofs.lemmas.Bool.{cases_order, false≢true, lt-ltb}
 use Rattle.std.proofs.lemmas.List.{length-map, map-set}
@@ -15,40 +14,38 @@ use Rattle.net_machine.specs.declared.plan.StreamPlan.{StreamPlan}
 use Rattle.net_present.specs.Onward.{entries_at}
 use Rattle.fabric_lists.specs.QueuesView.{entries_of, has_none, holds, is_held}
 
--- the flags of these queues
-abbrev pub held_in : List (List Queued) → List Bool
-held_in queues = map is_held queues
+-- Flags of the queues by what is read of their entries: of an empty queue it is false.
+module _ (read : List Queued → Bool) (blank : read [] ≡ false) where
+  -- there is a flag for each queue
+  pub flags_count : (parts : List QueueSeen) (flags : List Bool) → flags ≡ map read (map entries_of parts)
+      → length flags ≡ length (map entries_of parts)
+  flags_count parts flags is = ap (λ (fs : List Bool). length fs) is ∙ length-map (map entries_of parts) read
 
--- there is a flag for each queue
-pub flags_count : (parts : List QueueSeen) (flags : List Bool) → flags ≡ held_in (map entries_of parts)
-    → length flags ≡ length (map entries_of parts)
-flags_count parts flags is = ap (λ (fs : List Bool). length fs) is ∙ length-map (map entries_of parts) is_held
+  flag_is : (queues : List (List Queued)) (q : ℕ) → flag_at (map read queues) q ≡ read (entries_at queues q)
+  flag_is queues q = ap (λ (none : Bool). get_or (map read queues) q none) (sym blank) ∙ get_or-map read queues q []
 
-flag_is : (queues : List (List Queued)) (q : ℕ) → flag_at (held_in queues) q ≡ holds queues q
-flag_is queues q = get_or-map is_held queues q []
+  -- the next set flag is that of the next queue of which this holds
+  pub next_is : (queues : List (List Queued)) (n : ℕ) (next : Option ℕ)
+      → MatchOption next (NoneFrom (flag_at (map read queues)) n) (IsNext (flag_at (map read queues)) n)
+      → MatchOption next (NoneFrom (λ q. read (entries_at queues q)) n) (IsNext (λ q. read (entries_at queues q)) n)
+  next_is queues n None none = λ j from. sym (flag_is queues j) ∙ none j from
+  next_is queues n (Some q) next = record {
+    from = next.from;
+    here = sym (flag_is queues q) ∙ next.here;
+    none = λ j from before. sym (flag_is queues j) ∙ next.none j from before;
+  }
 
--- the next set flag is that of the next queue that holds an entry
-pub next_is : (queues : List (List Queued)) (n : ℕ) (next : Option ℕ)
-    → MatchOption next (NoneFrom (flag_at (held_in queues)) n) (IsNext (flag_at (held_in queues)) n)
-    → MatchOption next (NoneFrom (holds queues) n) (IsNext (holds queues) n)
-next_is queues n None none = λ j from. sym (flag_is queues j) ∙ none j from
-next_is queues n (Some q) next = record {
-  from = next.from;
-  here = sym (flag_is queues q) ∙ next.here;
-  none = λ j from before. sym (flag_is queues j) ∙ next.none j from before;
-}
+  -- it holds of no empty queue
+  pub none_set : (count : ℕ) → replicate count false ≡ map read (replicate count [])
+  none_set zero = refl
+  none_set (suc n) = ap (λ (b : Bool). b ∷ replicate n false) (sym blank) ∙ ap (λ (flags : List Bool). read [] ∷ flags) (none_set n)
 
--- empty queues hold none
-pub none_held : (count : ℕ) → replicate count false ≡ held_in (replicate count [])
-none_held zero = refl
-none_held (suc n) = ap (λ flags. false ∷ flags) (none_held n)
-
--- a flag that says of its queue whether it holds an entry
-pub held_set : (parts : List QueueSeen) (flags : List Bool) (q : ℕ) (part : QueueSeen) (on : Bool) → flags ≡ held_in (map entries_of parts)
-    → on ≡ is_held part.entries → set flags q on ≡ held_in (map entries_of (set parts q part))
-held_set parts flags q part on is here =
-    ap (λ (fs : List Bool). set fs q on) is ∙ ap (set (held_in (map entries_of parts)) q) here
-    ∙ sym (ap held_in (map-set entries_of parts q part) ∙ map-set is_held (map entries_of parts) q part.entries)
+  -- a flag that says of its queue whether it does
+  pub flag_set : (parts : List QueueSeen) (flags : List Bool) (q : ℕ) (part : QueueSeen) (on : Bool) → flags ≡ map read (map entries_of parts)
+      → on ≡ read part.entries → set flags q on ≡ map read (map entries_of (set parts q part))
+  flag_set parts flags q part on is here =
+      ap (λ (fs : List Bool). set fs q on) is ∙ ap (set (map read (map entries_of parts)) q) here
+      ∙ sym (ap (map read) (map-set entries_of parts q part) ∙ map-set read (map entries_of parts) q part.entries)
 
 -- a queue that was written keeps its room
 pub rooms_set : (parts : List QueueSeen) (room q : ℕ) (old new : QueueSeen) → All (λ (p : QueueSeen). p.room ≡ room) parts

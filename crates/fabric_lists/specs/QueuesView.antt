@@ -1,7 +1,7 @@
 -- The queues of a network as contracts see them, read from the fields.
 use Rattle.std.specs.Prelude.{◌≡◌, ℕ, Bool, true, false, List, [], ◌∷◌, All, map, not}
 use Rattle.std.specs.List.{list_all}
-use Rattle.net_machine.specs.Conditions.{is_of}
+use Rattle.net_machine.specs.Conditions.{can_lose, is_of}
 use Rattle.net_machine.specs.Front.{Queued}
 use Rattle.net_machine.specs.declared.plan.StreamPlan.{StreamPlan}
 use Rattle.net_present.specs.Onward.{entries_at}
@@ -28,11 +28,17 @@ is_held (e ∷ rest) = true
 abbrev pub holds : List (List Queued) → ℕ → Bool
 holds queues q = is_held (entries_at queues q)
 
+-- the front entry of queue q is marked
+abbrev pub loses : List (List Queued) → ℕ → Bool
+loses queues q = can_lose (entries_at queues q)
+
 -- no entry of a stream is among these
 abbrev pub has_none : StreamPlan → List Queued → Bool
 has_none plan es = list_all (λ (e : Queued). not (is_of plan e.packet.dst e.packet.body)) es
 
--- each queue has this room, and exactly the flags of the queues that hold an entry are set
+-- Each queue has this room. Exactly the flags of the queues that hold an entry are set, and of those whose front entry is
+-- marked.
 pub record IsSound (qs : Inside) : Type 0 where
   pub rooms : All (λ (q : QueueSeen). q.room ≡ qs.room) qs.queues.items
   pub held : qs.held ≡ map is_held (map entries_of qs.queues.items)
+  pub marked : qs.marked ≡ map can_lose (map entries_of qs.queues.items)

@@ -1,6 +1,7 @@
 -- The nodes of a network as contracts see them.
-use Rattle.std.specs.Prelude.{ℕ, List, length, map, slice_index_or, slice_set}
+use Rattle.std.specs.Prelude.{ℕ, ◌||◌, Bool, List, length, map, slice_index_or, slice_set}
 use Rattle.std.specs.List.{range_with_len}
+use Rattle.net_machine.specs.Blocks.{has_packet}
 use Rattle.net_machine.specs.Plans.{no_epid}
 use Rattle.net_machine.specs.State.{Node, node_in}
 use Rattle.net_topology.specs.declared.plan.Plan.{Plan}
@@ -49,3 +50,11 @@ spare_seen spares x = slice_index_or spares x no_spare
 -- what node x holds changes
 abbrev pub on_site : ℕ → (Node → Node) → List Node → List Node
 on_site x next nodes = slice_set nodes x (next (node_in nodes x))
+
+-- a request or an answer is to leave a node
+abbrev pub has_work : Node → Bool
+has_work n = has_packet n.requests || has_packet n.pending
+
+-- which nodes have something to do
+abbrev pub working_in : List Node → List Bool
+working_in nodes = map has_work nodes

@@ -4,6 +4,7 @@
 mod begin;
 pub mod blocks;
 mod build;
+mod hints;
 mod queues;
 pub mod sites;
 pub mod stream_reads;

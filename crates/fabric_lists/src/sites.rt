@@ -6,7 +6,7 @@ ghost use Rattle.net_nodes.specs.Operations.{asked_in};
 ghost use Rattle.net_nodes.specs.Perform.{first_hop, last_hop, performed, without_first, work_of};
 ghost use Rattle.net_nodes.specs.Table.{with_exit};
 ghost use Rattle.fabric_nodes.specs.Shapes.{HasPort, leaves_of, site_of};
-ghost use Rattle.fabric_lists.specs.SitesView.{on_site, shape_seen, sites_of, spare_seen};
+ghost use Rattle.fabric_lists.specs.SitesView.{has_work, on_site, shape_seen, sites_of, spare_seen};
 
 use chdr_packets::Packet;
 use chdr_words::{Epid, Management};
@@ -34,6 +34,13 @@ pub fn first_pending(sites: &[Site], x: usize) -> Option<&Packet>
     } else {
         None
     }
+}
+
+/// Whether a request or an answer is to leave a node.
+pub fn has_work(sites: &[Site], x: usize) -> bool
+    ensures { result ≡ has_work (node_in (sites_of sites.now).nodes x) }
+{
+    first_request(sites, x).is_some() || first_pending(sites, x).is_some()
 }
 
 /// How many requests are to leave a node.

@@ -14,6 +14,7 @@ returns-clause-sound c =
       queues = c.requires.sound.queues;
       room = c.requires.sound.room;
       shapes = c.requires.sound.shapes;
+      working = c.requires.sound.working;
       plans = c.in_ok-streams.ensures.plans ∙ ap (λ (p : RunPlan). p.streams) copied;
       txs = c.in_ok-streams.ensures.txs ∙ ap txs_in copied;
       kinds = ap (map kind_now) c.in_ok-blocks.ensures ∙ unfed-kinds plan ∙ ap (λ (p : RunPlan). map kind_planned p.blocks) copied;

@@ -1,10 +1,10 @@
-use Rattle.std.proofs.Common.{◌≡◌, ◌+◌, ◌≤◌, ◌<◌, List, length, refl, sym, ◌∙◌, ap, arith}
+use Rattle.std.proofs.Common.{◌+◌, ◌≤◌, List, length, sym, ◌∙◌, ap, arith}
 use Rattle.std.specs.List.{filter}
 use Rattle.net_machine.specs.declared.event.Event.{Event}
 use Rattle.fabric_events.specs.declared.candidates.Sizes.{Sizes}
 use Rattle.fabric_events.specs.Choosing.{doable_now}
 use Rattle.fabric_events.specs.Fabrics.{present_of}
-use Rattle.fabric_events.specs.Sizes.{candidate_count, candidates_in}
+use Rattle.fabric_events.specs.Sizes.{candidates_in}
 use Rattle.fabric_events.proofs.fabric.Fabric.count_doable.Goals as goal
 use Rattle.fabric_events.proofs.fabric.Fabric.count_doable.Goals.{then-doable, else-doable}
 use Rattle.fabric_events.proofs.ChoosingLemmas.{counts_more, counts_same, list_is, passes_all, skips}

@@ -1,33 +1,12 @@
-use Rattle.std.proofs.Common.{◌+◌, ◌-◌, ◌≤◌, ◌<◌, ℕ, sym, subst, arith}
-use Rattle.fabric_flags.specs.Set.{IsNext, NoneFrom}
-use Rattle.fabric_lists.specs.QueuesView.{holds}
+use Rattle.std.proofs.Common.{arith}
 use Rattle.fabric_events.specs.Fabrics.{present_of}
-use Rattle.fabric_events.proofs.StillLemmas.{hop_next, loss_next, past_hops, past_losses, queue_within, still_past}
+use Rattle.fabric_events.proofs.StillLemmas.{still_past, still_through}
 use Rattle.fabric_events.proofs.fabric.Fabric.next_place.Goals as goal
 
-pub returns-then-k-losses-clause-still : goal.returns-then-k-losses-clause-still
-returns-then-k-losses-clause-still c = still_past (present_of c.args.self.now) c.args.sizes c.args.k c.args.k (omega arith)
-
-pub returns-in-Some-clause-still : goal.returns-in-Some-clause-still
-returns-in-Some-clause-still c =
-    let p = present_of c.args.self.now in
-    let before = still_past p c.args.sizes c.args.k c.losses-losses.result (omega arith) in
-    loss_next p c.args.sizes c.losses-losses.result c.requires.sizes c.losses-losses.ensures c.args.k c.in-Some.q before c.in-Some.ensures
-
-pub returns-in-Some-next_held-clause-still : goal.returns-in-Some-next_held-clause-still
-returns-in-Some-next_held-clause-still c =
-    let p = present_of c.args.self.now in
-    let l = c.losses-losses.result in
-    let before = still_past p c.args.sizes c.args.k l (omega arith) in
-    let past = past_losses p c.args.sizes l c.requires.sizes c.losses-losses.ensures c.args.k before c.in_default.ensures in
-    hop_next p c.args.sizes l c.requires.sizes c.losses-losses.ensures c.args.k c.in-Some-next_held.q past
-    (subst (λ (n : ℕ). IsNext (holds p.queues) n c.in-Some-next_held.q) c.saturating_sub.ensures c.in-Some-next_held.ensures)
+pub returns-then-k-replies-clause-still : goal.returns-then-k-replies-clause-still
+returns-then-k-replies-clause-still c = still_past (present_of c.args.self.now) c.args.sizes c.args.k c.args.k (omega arith)
 
 pub returns-in-None-clause-still : goal.returns-in-None-clause-still
 returns-in-None-clause-still c =
-    let p = present_of c.args.self.now in
-    let l = c.losses-losses.result in
-    let before = still_past p c.args.sizes c.args.k l (omega arith) in
-    let past = past_losses p c.args.sizes l c.requires.sizes c.losses-losses.ensures c.args.k before c.in_default.ensures in
-    past_hops p c.args.sizes l c.requires.sizes c.losses-losses.ensures c.args.k c.count.result past
-    (subst (NoneFrom (holds p.queues)) c.saturating_sub.ensures c.in-None.ensures) c.count.ensures.count
+    still_through (present_of c.args.self.now) c.args.sizes c.args.k c.losses-losses.result c.next_at_queue-in-None.result c.losses-losses.ensures
+    (omega arith) c.in-None.ensures.still c.next_at_queue-in-None.ensures.still

@@ -1,11 +1,11 @@
-use Rattle.std.proofs.Common.{◌≡◌, ◌+◌, ◌≤◌, ◌<◌, List, length, refl, sym, ◌∙◌, ap, arith}
+use Rattle.std.proofs.Common.{◌+◌, ◌≤◌, List, length, sym, ◌∙◌, ap, arith}
 use Rattle.std.specs.Prelude.{slice_get}
 use Rattle.std.specs.List.{filter}
 use Rattle.net_machine.specs.declared.event.Event.{Event}
 use Rattle.fabric_events.specs.declared.candidates.Sizes.{Sizes}
 use Rattle.fabric_events.specs.Choosing.{doable_now}
 use Rattle.fabric_events.specs.Fabrics.{present_of}
-use Rattle.fabric_events.specs.Sizes.{candidate_count, candidates_in}
+use Rattle.fabric_events.specs.Sizes.{candidates_in}
 use Rattle.fabric_events.proofs.fabric.Fabric.nth_doable.Goals as goal
 use Rattle.fabric_events.proofs.fabric.Fabric.nth_doable.Goals.{then-doable+else-passed-place, else-doable}
 use Rattle.fabric_events.proofs.ChoosingLemmas.{counts_more, counts_same, is_at, list_is, none_left, skips}

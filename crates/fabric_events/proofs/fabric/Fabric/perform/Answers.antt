@@ -4,11 +4,13 @@ use Rattle.net_machine.specs.Front.{Queued}
 use Rattle.net_machine.specs.Passing.{walked_by}
 use Rattle.net_machine.specs.State.{Node}
 use Rattle.net_needs.specs.Hopping.{HasWayOn}
+use Rattle.net_nodes.specs.Perform.{performed}
 use Rattle.fabric_nodes.specs.Shapes.{site_of}
 use Rattle.fabric_lists.specs.SitesView.{shape_seen, sites_of}
 use Rattle.fabric_events.specs.Fabrics.{present_of}
 use Rattle.fabric_events.specs.Walking.{moves_by}
 use Rattle.fabric_events.proofs.WalkLemmas.{moved_by_hop, port_there, same_management, site_there, way_by_hop, with_banks}
+use Rattle.fabric_events.proofs.WorkLemmas.{flag_kept, sound_sites}
 use Rattle.fabric_events.proofs.fabric.Fabric.perform.Goals as goal
 
 pub perform-exit-requires-clause-port : goal.perform-exit-requires-clause-port
@@ -56,3 +58,14 @@ returns-in-Management-clause-goes c m banks is =
     c.entry.view_is
     (subst (λ (k : Management). moves_by c.args.d c.args.vc entry (walked_by p.tree p.nodes c.args.d entry.packet k) (with_banks p banks) ≡ with_banks new banks)
     same here)
+
+pub leave-requires-clause-sound : goal.leave-requires-clause-sound
+leave-requires-clause-sound c =
+    let f = c.args.self.now in
+    sound_sites f (record f { sites = c.perform-exit.new.sites }) c.requires.sound refl c.perform-exit.ensures.shapes
+    (flag_kept (sites_of f.sites.items).nodes (sites_of c.perform-exit.new.sites.items).nodes f.working c.end_at-x.result.0
+    (λ n. record n {
+      table =
+          (performed (site_of (shape_seen (sites_of f.sites.items).shapes c.end_at-x.result.0) c.end_at-x.result.1) n.table
+          c.in-Management.m).table;
+    }) c.requires.sound.working c.perform-exit.ensures.nodes refl)

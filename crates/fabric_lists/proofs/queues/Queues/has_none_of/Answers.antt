@@ -1,6 +1,12 @@
-use Rattle.std.proofs.Common.{◌<◌, length, sym, ◌∙◌, arith}
+use Rattle.std.proofs.Common.{sym, ◌∙◌, arith}
 use Rattle.fabric_lists.proofs.HeldLemmas.{next_within, none_at_all, none_more, one_there}
 use Rattle.fabric_lists.proofs.queues.Queues.has_none_of.Goals as goal
+
+pub returns-then-is_seen : goal.returns-then-is_seen
+returns-then-is_seen c = sym (c.is_seen.ensures c.if-is_seen.true)
+
+pub returns-then-is_seen-2 : goal.returns-then-is_seen-2
+returns-then-is_seen-2 c = sym (c.is_seen-2.ensures c.if-is_seen-2.true)
 
 pub loop-q-init : goal.loop-q-init
 loop-q-init c = (λ j there. absurd (omega arith), omega arith)

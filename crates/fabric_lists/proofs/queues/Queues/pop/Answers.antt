@@ -1,9 +1,10 @@
-use Rattle.std.proofs.Common.{◌≡◌, ℕ, ◌<◌, List, [], ◌∷◌, length, ◌∙◌, sym, ap, subst, get_or, set, Option, None, Some, arith}
+use Rattle.std.proofs.Common.{◌≡◌, ◌<◌, List, [], ◌∷◌, length, refl, ◌∙◌, sym, ap, subst, get_or, set, Option, None, Some, arith}
 use Rattle.std.specs.Prelude.{map, nat_lt, MatchOption}
+use Rattle.net_machine.specs.Conditions.{can_lose}
 use Rattle.net_machine.specs.Front.{Queued}
 use Rattle.fabric_lists.specs.QueuesView.{QueuesSeen, entries_of, is_held}
 use Rattle.fabric_lists.proofs.queues.Queues.pop.Goals as goal
-use Rattle.fabric_lists.proofs.HeldLemmas.{flags_count, held_by_length, held_set, rooms_set}
+use Rattle.fabric_lists.proofs.HeldLemmas.{flag_set, flags_count, held_by_length, rooms_set}
 use Rattle.fabric_lists.proofs.PartLemmas.{read-at, read-set}
 
 -- what was popped of a queue with these entries
@@ -35,7 +36,15 @@ set-requires c =
     let parts = c.self.inside.queues.items in
     let there : c.args.q < length (map entries_of parts) =
     subst (λ (v : QueuesSeen). c.args.q < length v.entries) (sym c.self.view_is) c.requires in
-    let many = flags_count parts c.self.inside.held c.self.invariant.held in
+    let many = flags_count is_held refl parts c.self.inside.held c.self.invariant.held in
+    omega arith
+
+pub set-requires-2 : goal.set-requires-2
+set-requires-2 c =
+    let parts = c.self.inside.queues.items in
+    let there : c.args.q < length (map entries_of parts) =
+    subst (λ (v : QueuesSeen). c.args.q < length v.entries) (sym c.self.view_is) c.requires in
+    let many = flags_count can_lose refl parts c.self.inside.marked c.self.invariant.marked in
     omega arith
 
 pub invariant_of-self : goal.invariant_of-self
@@ -48,5 +57,7 @@ invariant_of-self c =
     record {
       rooms = rooms_set parts c.self.inside.room c.args.q c.index_mut-queue.result.now new c.self.invariant.rooms there
           c.index_mut-queue.ensures.value c.pop-entry.ensures.room;
-      held = c.set.ensures ∙ held_set parts c.self.inside.held c.args.q new (nat_lt 0 c.len-is_held.result) c.self.invariant.held here;
+      held = c.set.ensures ∙ flag_set is_held refl parts c.self.inside.held c.args.q new (nat_lt 0 c.len-is_held.result) c.self.invariant.held here;
+      marked = c.set-2.ensures ∙ flag_set can_lose refl parts c.self.inside.marked c.args.q new c.is_front_marked-is_marked.result
+          c.self.invariant.marked c.is_front_marked-is_marked.ensures;
     }
