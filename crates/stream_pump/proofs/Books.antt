@@ -18,6 +18,7 @@ use Rattle.run_books.specs.Books.{TellsOf, blocks_of, each_stream}
 use Rattle.stream_pump.specs.PlainBooks.{ChosenBooksAreBooks}
 use Rattle.stream_pump.specs.Running.{CanRun}
 use Rattle.stream_pump.specs.Telling.{TellsNow, has_line}
+use Rattle.stream_pump.specs.WholeRuns.{WholeRunsHaveBooks}
 use Rattle.net_machine.specs.declared.plan.BlockPlan.{BlockPlan}
 use Rattle.std.proofs.lemmas.Bool.{cases_lt}
 use Rattle.std.proofs.lemmas.List.{get_or_past, length-map}
@@ -50,10 +51,9 @@ pub whole-run : (seed : ℕ) (plan : RunPlan) (w : State) (journal : List Event)
     → IsWhole (begun plan w) journal
 whole-run seed plan w journal can chosen = chosen_is_whole seed (begun plan w) journal (few-inputs plan w can) chosen
 
-pub rest-after : (seed : ℕ) (plan : RunPlan) (w : State) (journal : List Event) → CanRun plan w → IsChosen seed (begun plan w) journal
+pub rest-after : (plan : RunPlan) (w : State) (journal : List Event) → CanRun plan w → IsWhole (begun plan w) journal
     → IsAtRest (after_journal (begun plan w) journal)
-rest-after seed plan w journal can chosen =
-    (runs_rest plan w journal can.lawful can.rest can.can (whole-run seed plan w journal can chosen)).rest
+rest-after plan w journal can whole = (runs_rest plan w journal can.lawful can.rest can.can whole).rest
 
 -- ---- what a net tells
 
@@ -63,13 +63,13 @@ plan-after plan w journal = (shapes_stay (begun plan w) (moves_of journal)).plan
 pub streams-after : (plan : RunPlan) (w : State) (journal : List Event) → length (after_journal (begun plan w) journal).streams ≡ length plan.streams
 streams-after plan w journal = (shapes_stay (begun plan w) (moves_of journal)).streams ∙ length-map plan.streams (opened plan)
 
-pub tells-of : (seed : ℕ) (plan : RunPlan) (w : State) (book : RunBook) → CanRun plan w → IsChosen seed (begun plan w) book.journal
+pub tells-of : (plan : RunPlan) (w : State) (book : RunBook) → CanRun plan w → IsWhole (begun plan w) book.journal
     → TellsNow (after_journal (begun plan w) book.journal) book → TellsOf (begun plan w) book
-tells-of seed plan w book can chosen tells = record {
+tells-of plan w book can whole tells = record {
   ends = tells.ends ∙ ap (λ (r : RunPlan). each_stream (end_of end) r) same;
   tallies = tells.tallies ∙ ap (λ (r : RunPlan). each_stream (tally_of end) r) same
       ∙ same-map (tally_of end) (tally_over (begun plan w) (moves_of book.journal))
-      (λ s. tallies_are_kept plan w (moves_of book.journal) s can.lawful can.rest can.can (whole-run seed plan w book.journal can chosen).legal)
+      (λ s. tallies_are_kept plan w (moves_of book.journal) s can.lawful can.rest can.can whole.legal)
       (range_with_len 0 (length plan.streams));
   taken = tells.taken ∙ ap (λ (r : RunPlan). map (taken_by end) (blocks_of is_rx r)) same;
   lines = tells.lines ∙ ap (λ (r : RunPlan). map (line_at end) (blocks_of has_line r)) same;
@@ -83,3 +83,6 @@ tells-of seed plan w book can chosen tells = record {
 
 pub chosen-book : ChosenBooksAreBooks
 chosen-book seed plan w book can is = record { whole = whole-run seed plan w book.journal can is.chosen; tells = is.tells }
+
+pub whole-book : WholeRunsHaveBooks
+whole-book plan w book can whole tells = record { whole = whole; tells = tells-of plan w book can whole tells }

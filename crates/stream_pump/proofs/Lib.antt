@@ -1,3 +1,4 @@
+pub mod Sided
 pub mod Supplying
 pub mod Draining
 pub mod Waiting

@@ -24,7 +24,7 @@ use Rattle.stream_pump.specs.PlainBooks.{IsPlainBook}
 use Rattle.stream_pump.specs.Running.{CanRun, HasRun, IsOpen}
 use Rattle.stream_pump.specs.Telling.{TellsNow}
 use Rattle.stream_pump.proofs.Beginning.{none-taken}
-use Rattle.stream_pump.proofs.Books.{chosen-book, rest-after, tells-of}
+use Rattle.stream_pump.proofs.Books.{chosen-book, rest-after, tells-of, whole-run}
 use Rattle.stream_pump.proofs.Ending.{rests}
 use Rattle.stream_pump.proofs.Plain.{plain-book}
 
@@ -56,7 +56,7 @@ pub book-of : (seed : ℕ) (plan : RunPlan) (w : State) (net : NetSeen) (banks :
     → IsChosenBook seed (begun plan w) book
 book-of seed plan w net banks drains book can run same tells = record {
   chosen = chosen;
-  tells = tells-of seed plan w book can chosen
+  tells = tells-of plan w book can (whole-run seed plan w book.journal can chosen)
       (subst (λ (js : List Event). TellsNow (after_journal (begun plan w) js) book) (sym same)
       (tells (after_journal (begun plan w) net.journal) run.here.stands run.here.taken));
 }
@@ -67,7 +67,7 @@ book-of seed plan w net banks drains book can run same tells = record {
 pub rests-then : (seed : ℕ) (plan : RunPlan) (w : State) (net : NetSeen) (banks : List (Option Registers)) (drains : List (List Packet))
     → CanRun plan w → HasRun seed (begun plan w) net banks drains → IsResting net.present
 rests-then seed plan w net banks drains can run =
-    rests net.present (after_journal (begun plan w) net.journal) run.here.stands (rest-after seed plan w net.journal can run.chosen)
+    rests net.present (after_journal (begun plan w) net.journal) run.here.stands (rest-after plan w net.journal can (whole-run seed plan w net.journal can run.chosen))
 
 pub plain-then : (seed : ℕ) (plan : RunPlan) (w : State) (book : RunBook) → CanRun plan w → IsChosenBook seed (begun plan w) book
     → AllByRecursion LosesNothing book.journal → IsPlainBook plan book

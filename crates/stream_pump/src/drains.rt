@@ -6,10 +6,9 @@ ghost use Rattle.fabric_net.specs.Standing.{StandsFor};
 ghost use Rattle.stream_pump.specs.Drains.{HandsNext, HandsOut, waiting_at};
 ghost use Rattle.stream_pump.specs.Supply.{CarriesOut};
 
+use crate::sides::SidedPlan;
 use chdr_packets::PacketList;
 use fabric_net::Net;
-use net_machine::RunPlan;
-use plan_lookups::ends_at_rx;
 use rf_base::{Items, Memory};
 use std::alloc::Global;
 
@@ -27,7 +26,7 @@ pub(crate) fn no_drains(alloc: Global, streams: usize) -> Result<Vec<PacketList>
 /// Hands out all that waits for the first Rx that has something, and answers the stream; none if no Rx has any.
 pub(crate) fn take_next(
     net: &mut Net,
-    plan: &RunPlan,
+    plan: &SidedPlan<'_>,
     drains: &mut Vec<PacketList>,
 ) -> Result<Option<u16>, Memory>
     requires plan { CarriesOut net.old.present plan.now }
@@ -36,8 +35,8 @@ pub(crate) fn take_next(
     ensures machine { OnOk result ((w : State) → StandsFor net.old.present w → StandsFor net.new.present w) }
     ensures journal { OnOk result (net.new.journal ≡ net.old.journal) }
 {
-    for s in 0..plan.streams.len() {
-        if ends_at_rx(plan, s) {
+    for s in 0..plan.streams() {
+        if plan.ends_at_rx(s) {
             let before = drains[s].len();
             hand_out(net, s as u16, &mut drains[s])?;
             if drains[s].len() > before {

@@ -8,18 +8,19 @@ ghost use Rattle.stream_pump.specs.Running.{HasRun, IsNext, IsOpen};
 ghost use Rattle.stream_pump.specs.Supply.{CarriesOut};
 
 use crate::drains::take_next;
+use crate::sides::SidedPlan;
 use crate::supply::supply;
 use block_registers::RegisterSlots;
 use chdr_packets::PacketList;
 use fabric_net::Net;
-use net_machine::{Event, RunPlan, Seed};
+use net_machine::{Event, Seed};
 use rf_base::Memory;
 
 /// Lets the events happen that the seed chooses, until none is left.
 pub(crate) fn run_events<B: RegisterSlots>(
     net: &mut Net,
     banks: &mut B,
-    plan: &RunPlan,
+    plan: &SidedPlan<'_>,
     seed: Seed,
     drains: &mut Vec<PacketList>,
 ) -> Result<(), Memory>
@@ -50,7 +51,7 @@ pub(crate) fn run_events<B: RegisterSlots>(
 /// Rule: docs/machine.md, "One thread".
 fn next_event(
     net: &mut Net,
-    plan: &RunPlan,
+    plan: &SidedPlan<'_>,
     seed: &mut Seed,
     drains: &mut Vec<PacketList>,
 ) -> Result<Option<Event>, Memory>

@@ -17,6 +17,7 @@ ghost use Rattle.stream_pump.specs.Telling.{TellsNow};
 use crate::drains::no_drains;
 use crate::events::run_events;
 use crate::lines::{lines, taken_lists};
+use crate::sides::SidedPlan;
 use crate::tells::{ends, tallies};
 use block_registers::RegisterSlots;
 use chdr_packets::PacketList;
@@ -52,12 +53,13 @@ pub fn run_one<B: RegisterSlots>(
     net.stands();
     net.begin(plan)?;
     let mut drains = no_drains(alloc, plan.streams.len())?;
-    run_events(net, banks, plan, seed, &mut drains)?;
+    let sided = SidedPlan::of(alloc, plan)?;
+    run_events(net, banks, &sided, seed, &mut drains)?;
     book(alloc, net, plan, drains)
 }
 
-/// What a net tells at the end of a run, with what its consumers took.
-fn book(
+/// The book of a run that is at its end: what the net tells, with what its consumers took, by the numbers of their streams.
+pub fn book(
     alloc: Global,
     net: &Net,
     plan: &RunPlan,

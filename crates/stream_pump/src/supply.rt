@@ -6,24 +6,23 @@ ghost use Rattle.fabric_net.specs.Offering.{AreSupplied, IsSupplied};
 ghost use Rattle.fabric_net.specs.Standing.{StandsFor};
 ghost use Rattle.stream_pump.specs.Supply.{CarriesOut, OnlyOffers};
 
+use crate::sides::SidedPlan;
 use fabric_net::Net;
-use net_machine::RunPlan;
-use plan_lookups::{is_tx, producer_of};
 use rf_base::Memory;
 
 /// How many offered packets of a stream wait at most.
 const MOST_OFFERED: u32 = 16;
 
 /// Offers the next packets of each stream that a Tx fills.
-pub(crate) fn supply(net: &mut Net, plan: &RunPlan) -> Result<(), Memory>
+pub(crate) fn supply(net: &mut Net, plan: &SidedPlan<'_>) -> Result<(), Memory>
     requires { CarriesOut net.old.present plan.now }
     ensures supplied { OnOk result (AreSupplied net.new.present) }
     ensures offers { OnOk result (OnlyOffers net.old.present net.new.present) }
     ensures machine { OnOk result ((w : State) → StandsFor net.old.present w → StandsFor net.new.present w) }
     ensures journal { OnOk result (net.new.journal ≡ net.old.journal) }
 {
-    for s in 0..plan.streams.len() {
-        if is_filled_by_tx(plan, s) {
+    for s in 0..plan.streams() {
+        if plan.begins_at_tx(s) {
             offer_next(net, s as u16)?;
         }
     }
@@ -46,15 +45,4 @@ fn offer_next(net: &mut Net, s: u16) -> Result<(), Memory>
         }
     }
     Ok(())
-}
-
-/// Whether a Tx makes the packets of a stream.
-fn is_filled_by_tx(plan: &RunPlan, s: usize) -> bool
-    requires { s < length plan.now.streams }
-    ensures { result ≡ is_tx_stream plan.now s }
-{
-    match producer_of(plan, s) {
-        Some(block) => is_tx(plan.blocks.as_slice()[block].kind),
-        None => false,
-    }
 }

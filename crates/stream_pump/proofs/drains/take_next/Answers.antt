@@ -13,7 +13,7 @@ returns-then-len-before-clause-hands c =
     let s = c.loop-s.s in
     let drains = c.loop-s.drains.items in
     let drain = c.hand_out.new.drain in
-    let end = c.len-s-end.ensures in
+    let end = c.streams-s-end.ensures in
     let lt : s < length plan.streams = let below = c.loop-s-test.true in omega (arith, below, end) in
     let many = c.requires.drains in
     let size = c.loop-s.drains.ok.0 in
@@ -35,7 +35,7 @@ loop-s-preserved c =
     let plan = c.args.plan.now in
     let s = c.loop-s.s in
     let drains = c.loop-s.drains.items in
-    let end = c.len-s-end.ensures in
+    let end = c.streams-s-end.ensures in
     let lt : s < length plan.streams = let below = c.loop-s-test.true in omega (arith, below, end) in
     let many = c.requires.drains in
     let kept = c.loop-s.invariant.looks.drains in
@@ -68,7 +68,7 @@ loop-s-preserved c =
 pub returns-clause-hands : goal.returns-clause-hands
 returns-clause-hands c =
     let plan = c.args.plan.now in
-    let end = c.len-s-end.ensures in
+    let end = c.streams-s-end.ensures in
     let all : c.loop-s.s ≡ length plan.streams = let low = c.loop-s-test.false in let high = c.loop-s.auto.s-end in omega (arith, end, low, high) in
     hands-nothing c.loop-s.s c.args.net.now.present c.loop-s.net.present c.args.drains.now.items c.loop-s.drains.items
     (c.requires.plan.streams ∙ sym all) c.loop-s.invariant.looks
