@@ -22,6 +22,7 @@ use Rattle.net_lawful.specs.Messages.{FitsTree}
 use Rattle.net_lone.proofs.Laws.{no_request_waits}
 use Rattle.net_walks.specs.Walks.{collector, inquiry, onward, walk}
 use Rattle.net_walks.specs.Ways.{last_of}
+use Rattle.net_walks.proofs.Laws.{ports_are_few, ways_are_short}
 use Rattle.fabric_net.specs.Asking.{CanAskNow}
 use Rattle.fabric_net.specs.Standing.{StandsFor}
 use Rattle.host_talk.specs.Settled.{IsSettledNow}
@@ -29,8 +30,7 @@ use Rattle.host_talk.proofs.Laws.{settled_states}
 use Rattle.walk_books.specs.declared.found.FoundNode.{FoundNode}
 use Rattle.topology_walk.specs.Probes.{probe_over}
 use Rattle.topology_walk.specs.Walks.{IsSource, LeadsBehind, found_along}
-use Rattle.topology_walk.proofs.Knowing.{ArePorts, ports-more, ports-small, way-few}
-use Rattle.topology_walk.proofs.Reading.{few-ports}
+use Rattle.topology_walk.proofs.Knowing.{ArePorts, ports-more, ports-small}
 
 -- the hops of a probe that leaves the nodes on its way by these ports
 abbrev hops_by : List ℕ → List (List MgmtOp)
@@ -139,8 +139,8 @@ pub record FitPorts (ports : List ℕ) : Type 0 where
   pub small : ArePorts ports
 
 ports-few : (tree : Plan) → FitsTree tree → (x : ℕ) (f : FoundNode) (way : List ℕ) → f ≡ found_along tree x way → f.ports ≤ 32
-ports-few tree fits x f [] is = subst (λ (g : FoundNode). g.ports ≤ 32) (sym is) (few-ports tree.nodes x fits.plan.nodes)
-ports-few tree fits x f (d ∷ ds) is = subst (λ (g : FoundNode). g.ports ≤ 32) (sym is) (few-ports tree.nodes (end_of tree.links (last_of d ds)) fits.plan.nodes)
+ports-few tree fits x f [] is = subst (λ (g : FoundNode). g.ports ≤ 32) (sym is) (ports_are_few tree x fits.plan)
+ports-few tree fits x f (d ∷ ds) is = subst (λ (g : FoundNode). g.ports ≤ 32) (sym is) (ports_are_few tree (end_of tree.links (last_of d ds)) fits.plan)
 
 -- a further port of a found node is one of its ports
 pub found-ports : (tree : Plan) → FitsTree tree → (x : ℕ) (f : FoundNode) (port : ℕ) (ports : List ℕ) → LeadsBehind tree x f port ports → port < 1024
@@ -153,7 +153,7 @@ pub fit-ports : (tree : Plan) → IsTree tree → FitsTree tree → (x : ℕ) (f
 fit-ports tree is fits x f port ports leads =
     let trail = leads.trail in
     let way = leads.known.way in
-    let few = way-few tree is fits.plan x f.instance way leads.known.is in
+    let few = ways_are_short tree x f.instance way is fits.plan leads.known.is in
     let long : length trail ≡ length way = ap (λ (t : List ℕ). length t) leads.known.made ∙ length-map way (start_port tree.links) in
     let all : length ports ≡ length trail + 1 = ap (λ (ps : List ℕ). length ps) leads.along ∙ length-append trail (port ∷ []) in
     let small : ArePorts trail = subst (λ (t : List ℕ). ArePorts t) (sym leads.known.made) (ports-small tree is fits.plan x f.instance way leads.known.is.0) in

@@ -1,29 +1,26 @@
 -- The ways to found nodes, and to what is behind their ports.
-use Rattle.std.proofs.Common.{◌≡◌, ◌≢◌, ℕ, ◌+◌, ◌*◌, ◌/◌, ◌%◌, ◌<◌, ◌≤◌, ◌⊎◌, inl, inr, Bool, true, false, List, [], ◌∷◌, ◌++◌, length, map, refl, sym, ◌∙◌, ap, subst, arith, eq-eqb, zero, suc, if◌then◌else◌}
-use Rattle.std.specs.Prelude.{Option, Some, None, All, ◌==◌, ◌&&◌, not, slice_get, unwrap_or}
+use Rattle.std.proofs.Common.{◌≡◌, ◌≢◌, ℕ, ◌*◌, ◌/◌, ◌%◌, ◌<◌, ◌≤◌, ◌⊎◌, inl, inr, Bool, true, false, List, [], ◌∷◌, ◌++◌, length, map, refl, sym, ◌∙◌, ap, subst, arith, eq-eqb, if◌then◌else◌}
+use Rattle.std.specs.Prelude.{Option, Some, None, ◌==◌, ◌&&◌, not}
 use Rattle.std.specs.List.{AllByRecursion}
-use Rattle.std.specs.Option.{option_and_then, option_map_or}
+use Rattle.std.specs.Option.{option_map_or}
 use Rattle.std.proofs.lemmas.Bool.{both_ways, cases_lt, ne_eqb}
 use Rattle.std.proofs.lemmas.List.{map-append}
 use Rattle.std.proofs.lemmas.Option.{slice_get_past}
-use Rattle.chdr_words.specs.declared.management.MgmtOp.{MgmtOp}
 use Rattle.net_topology.specs.Links.{IsWay, NeverTurns, Walks, back_of, end_of, end_port, link_at, link_of, start_of, start_port}
-use Rattle.net_topology.specs.Ranks.{MayFollow, rank_of}
-use Rattle.net_topology.specs.Tree.{FitsNode, FitsPlan, IsTree, epid_of, port_count, ports_of}
+use Rattle.net_topology.specs.Ranks.{MayFollow}
+use Rattle.net_topology.specs.Tree.{FitsPlan, IsTree, port_count, ports_of}
 use Rattle.net_topology.specs.declared.plan.LinkPlan.{LinkPlan}
 use Rattle.net_topology.specs.declared.plan.NodePlan.{NodePlan}
 use Rattle.net_topology.specs.declared.plan.NodePlan.TheVariants.{Crossbar, Adapter, Host, Endpoint}
 use Rattle.net_topology.specs.declared.plan.Plan.{Plan}
-use Rattle.net_topology.proofs.Laws.{links_join_ports, links_leave_by_ports, other_ports_lead_on, ranks_are_bounded, ranks_fall, walks_are_ways, ways_are_unique, ways_follow, ways_go_on, ways_never_turn}
+use Rattle.net_topology.proofs.Laws.{links_join_ports, links_leave_by_ports, other_ports_lead_on, walks_are_ways, ways_are_unique, ways_never_turn}
 use Rattle.net_machine.specs.Nodes.{is_host, is_host_at, planned}
-use Rattle.net_machine.specs.Plans.{no_epid}
-use Rattle.net_walks.specs.Walks.{hops_over, onward}
 use Rattle.net_walks.specs.Ways.{last_of}
+use Rattle.net_walks.proofs.Laws.{ports_are_few}
 use Rattle.walk_books.specs.declared.found.FoundNode.{FoundNode}
 use Rattle.topology_walk.specs.Nodes.{found_over, is_arrival}
 use Rattle.topology_walk.specs.Probes.{ports_to}
 use Rattle.topology_walk.specs.Walks.{IsKnown, LeadsBehind, found_along}
-use Rattle.topology_walk.proofs.Reading.{few-ports}
 
 -- ---- walks
 
@@ -133,27 +130,7 @@ pub ports-same : (tree : Plan) → IsTree tree → (x : ℕ) (f : FoundNode) (po
 ports-same tree is x f port ports leads =
     leads.along ∙ ap (λ (t : List ℕ). t ++ port ∷ []) (leads.known.made ∙ ap (map (start_port tree.links)) (ways_are_unique tree is x f.instance leads.known.way leads.known.is))
 
-pub hops-along : (links : List LinkPlan) (d : ℕ) (ds : List ℕ) → hops_over links (d ∷ ds) ≡ map onward (map (start_port links) ds)
-hops-along links d [] = refl
-hops-along links d (e ∷ ds) = ap (λ (hops : List (List MgmtOp)). onward (start_port links e) ∷ hops) (hops-along links e ds)
-
--- ---- lengths
-
-pub way-short : (tree : Plan) → IsTree tree → (x y d : ℕ) (ds : List ℕ) → IsWay tree.links x y (d ∷ ds) → length (d ∷ ds) ≤ rank_of tree d + 1
-way-short tree is x y d [] way = omega arith
-way-short tree is x y d (e ∷ ds) way =
-    let falls = ranks_fall tree is d e way.0.0 (ways_follow tree x y d e ds way) in
-    let rest = way-short tree is (end_of tree.links d) y e ds (ways_go_on tree x y d (e ∷ ds) way) in
-    omega (arith, falls, rest)
-
-pub way-few : (tree : Plan) → IsTree tree → FitsPlan tree → (x y : ℕ) (ds : List ℕ) → IsWay tree.links x y ds → length ds ≤ 257
-way-few tree is fits x y [] way = omega arith
-way-few tree is fits x y (d ∷ ds) way =
-    let short = way-short tree is x y d ds way in
-    let bound = ranks_are_bounded tree d in
-    let few = is.nodes.few in
-    let limit = fits.limit in
-    omega (arith, short, bound, few, limit)
+-- ---- the ports of a way
 
 -- numbers of ports
 abbrev pub ArePorts : List ℕ → Type 0
@@ -163,7 +140,7 @@ pub ports-small : (tree : Plan) → IsTree tree → FitsPlan tree → (x y : ℕ
 ports-small tree is fits x y [] walks = tt
 ports-small tree is fits x y (d ∷ ds) walks =
     let joins = (links_join_ports tree is d walks.0).2 in
-    let few = few-ports tree.nodes (start_of tree.links d) fits.nodes in
+    let few = ports_are_few tree (start_of tree.links d) fits in
     (omega (arith, joins, few), ports-small tree is fits (end_of tree.links d) y ds walks.2)
 
 pub ports-more : (ports : List ℕ) (port : ℕ) → ArePorts ports → port < 1024 → ArePorts (ports ++ port ∷ [])
@@ -190,13 +167,3 @@ host-port tree x port is lt = by_node (planned tree x) is lt
     by_node (Some Adapter) h l = let z : ◌≡◌ {A = Bool} false true = h in absurd cc
     by_node (Some (Host own)) h l = omega (arith, l)
     by_node (Some (Endpoint own bank)) h l = let z : ◌≡◌ {A = Bool} false true = h in absurd cc
-
--- its EPID isn't 0
-pub host-some : (nodes : List NodePlan) (x : ℕ) → All FitsNode nodes → option_map_or is_host (slice_get nodes x) false ≡ true →
-    0 < (unwrap_or (option_and_then epid_of (slice_get nodes x)) no_epid).0
-host-some [] x all h = let z : ◌≡◌ {A = Bool} false true = h in absurd cc
-host-some (Crossbar ports ∷ nodes) zero all h = let z : ◌≡◌ {A = Bool} false true = h in absurd cc
-host-some (Adapter ∷ nodes) zero all h = let z : ◌≡◌ {A = Bool} false true = h in absurd cc
-host-some (Host own ∷ nodes) zero all h = all zero (Host own) (omega arith)
-host-some (Endpoint own bank ∷ nodes) zero all h = let z : ◌≡◌ {A = Bool} false true = h in absurd cc
-host-some (node ∷ nodes) (suc x) all h = host-some nodes x (λ i d lt. all (suc i) d (omega (arith, lt))) h

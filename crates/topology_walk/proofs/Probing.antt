@@ -21,7 +21,8 @@ use Rattle.net_lone.specs.Talks.{IsTalk}
 use Rattle.net_walks.specs.Probes.{IsWalk, SendsWalkers}
 use Rattle.net_walks.specs.Walks.{collector, hops_over, information, inquiry, onward, returner, walker}
 use Rattle.net_walks.specs.Ways.{last_of}
-use Rattle.net_walks.proofs.Laws.{bare_ports_send_back, probes_come_back, ways_are_walks}
+use Rattle.net_walks.specs.Talks.{has_walked}
+use Rattle.net_walks.proofs.Laws.{bare_ports_send_back, hops_leave_by_ports, hosts_have_some, probes_come_back, ways_are_walks}
 use Rattle.fabric_net.specs.NetView.{NetSeen}
 use Rattle.fabric_net.specs.Standing.{StandsFor}
 use Rattle.host_talk.specs.Settled.{IsSettledNow}
@@ -35,9 +36,9 @@ use Rattle.topology_walk.specs.Nodes.{found_over, is_arrival}
 use Rattle.topology_walk.specs.Probes.{Probe, packet_of, probe_over, probed}
 use Rattle.topology_walk.specs.Walks.{HasProbed, IsProbed, IsSource, LeadsBehind, behind_port, behind_probe, found_along}
 use Rattle.topology_walk.proofs.Asking.{fits-of, held, tree-of}
-use Rattle.topology_walk.proofs.Knowing.{LeadsTo, host-port, host-some, hops-along, last-there, leads-to, other-port, ports-same}
+use Rattle.topology_walk.proofs.Knowing.{LeadsTo, host-port, last-there, leads-to, other-port, ports-same}
 use Rattle.topology_walk.proofs.Reading.{bare-behind, node-behind}
-use Rattle.topology_walk.proofs.Talking.{IsWalkTalk, settled-walked, walk-talks, with_walk}
+use Rattle.topology_walk.proofs.Talking.{IsWalkTalk, walk-talks}
 
 -- ---- the talk of a probe
 
@@ -64,7 +65,7 @@ tells-of w src hops journal found left node port behind talk told is = record {
     by_loss false = told ∙ sym is
 
 -- a host that walks
-sends : (w : State) (x : ℕ) (src : Epid) → FitsTree w.tree → 0 < src.0 → IsSource w.tree x src → SendsWalkers (with_walk w) x src
+sends : (w : State) (x : ℕ) (src : Epid) → FitsTree w.tree → 0 < src.0 → IsSource w.tree x src → SendsWalkers w x src
 sends w x src fits some source = record {
   host = source.host;
   own = source.own;
@@ -84,10 +85,9 @@ linked-talk w x src node port e ports journal found left settled fits some sourc
     let walk : IsWalk w.tree x d ds = ways_are_walks w.tree x (end_of links e) d ds tree fits.plan source.host to.way in
     let out : List (List MgmtOp) = hops_over links (d ∷ ds) ++ inquiry ∷ collector ∷ [] in
     let same : probe_over src ports ≡ walker src out =
-    ap (probe_over src) to.along ∙ ap (λ (hops : List (List MgmtOp)). walker src (hops ++ inquiry ∷ collector ∷ [])) (sym (hops-along links d ds)) in
-    let it = probes_come_back (with_walk w) x d ds src (settled-walked w settled) (sends w x src fits some source) walk in
-    let talked = walk-talks w x d ds src out (information w.tree (last_of d ds) ∷ []) journal found left settled walk it
-    (subst (λ (p : Packet). IsTalk w x p journal found left) same talk) in
+    ap (probe_over src) to.along ∙ ap (λ (hops : List (List MgmtOp)). walker src (hops ++ inquiry ∷ collector ∷ [])) (sym (hops_leave_by_ports links d ds)) in
+    let talked = walk-talks w x d ds src out (information w.tree (last_of d ds) ∷ []) journal found left settled (sends w x src fits some source) walk
+    (λ walked asks. probes_come_back (has_walked w) x d ds src walked asks walk) (subst (λ (p : Packet). IsTalk w x p journal found left) same talk) in
     let leaves = links_leave_by_ports w.tree e node port link in
     let told : behind_told (Some (returner src (information w.tree (last_of d ds) ∷ []))) node port ≡ Node (found_over w.tree e) =
     (λ i. behind_told (Some (returner src (information w.tree (to.last i) ∷ []))) (sym leaves.0 i) (sym leaves.1 i)) ∙ node-behind w.tree tree fits src e leaves.2 in
@@ -116,12 +116,12 @@ bare-talk w x src f (d ∷ ds) port journal found left settled fits some source 
     let hops : map onward (map (start_port links) ds ++ port ∷ []) ++ inquiry ∷ collector ∷ [] ≡ out =
     ap (λ (hs : List (List MgmtOp)). hs ++ inquiry ∷ collector ∷ []) (map-append onward (map (start_port links) ds) (port ∷ []))
     ∙ append_assoc (map onward (map (start_port links) ds)) (onward port ∷ []) (inquiry ∷ collector ∷ [])
-    ∙ ap (λ (hs : List (List MgmtOp)). hs ++ onward port ∷ inquiry ∷ collector ∷ []) (sym (hops-along links d ds)) in
+    ∙ ap (λ (hs : List (List MgmtOp)). hs ++ onward port ∷ inquiry ∷ collector ∷ []) (sym (hops_leave_by_ports links d ds)) in
     let same : probe_over src (map (start_port links) (d ∷ ds) ++ port ∷ []) ≡ walker src out = ap (walker src) hops in
     let other : port ≢ end_port links l = other-port w.tree tree l port (last-there links n x f.instance d ds way.0) (ap (λ (g : FoundNode). is_arrival g port) (sym is) ∙ further) in
-    let it = bare_ports_send_back (with_walk w) x d ds src port (settled-walked w settled) (sends w x src fits some source) walk
-    (subst (λ (g : FoundNode). port < g.ports) is there) small other (ap (λ y. link_at links y port) (sym ends) ∙ none) in
-    let talked = walk-talks w x d ds src out (inquiry ∷ collector ∷ []) journal found left settled walk it
+    let talked = walk-talks w x d ds src out (inquiry ∷ collector ∷ []) journal found left settled (sends w x src fits some source) walk
+    (λ walked asks. bare_ports_send_back (has_walked w) x d ds src port walked asks walk
+    (subst (λ (g : FoundNode). port < g.ports) is there) small other (ap (λ y. link_at links y port) (sym ends) ∙ none))
     (subst (λ (p : Packet). IsTalk w x p journal found left) same talk) in
     tells-of w src (inquiry ∷ collector ∷ []) journal found left f.instance port Bare talked (bare-behind src f.instance port)
     (ap (λ (o : Option ℕ). option_map_or (λ (e : ℕ). Node (found_over w.tree e)) o Bare) none)
@@ -179,7 +179,7 @@ probed-in old new banks left x src f port ports found behind settled some source
 
 -- a host that walks has an EPID
 pub source-some : (p : Present) (w : State) (x : ℕ) (src : Epid) → StandsFor p w → IsSource p.tree x src → 0 < src.0
-source-some p w x src stands source = subst (λ (e : Epid). 0 < e.0) source.own (host-some p.tree.nodes x (fits-of p w stands).plan.nodes source.host)
+source-some p w x src stands source = subst (λ (e : Epid). 0 < e.0) source.own (hosts_have_some p.tree x (fits-of p w stands).plan source.host)
 
 pub has-probed : (old new : NetSeen) (banks left : List (Option Registers)) (x : ℕ) (src : Epid) (f : FoundNode) (port : ℕ) (ports : List ℕ) (found : Option Packet) (behind : Behind) →
     ((slots : List (Option Registers)) → (w : State) × StandsFor old.present w × (w.banks ≡ slots)) →

@@ -1,6 +1,6 @@
 -- What the answer to a probe tells is what is behind the port.
-use Rattle.std.proofs.Common.{◌≡◌, ℕ, ◌+◌, ◌*◌, ◌/◌, ◌%◌, ◌^◌, ◌<◌, ◌≤◌, List, [], ◌∷◌, refl, ◌∙◌, ap, arith, zero, suc, length}
-use Rattle.std.specs.Prelude.{Option, Some, None, All, slice_get, unwrap_or}
+use Rattle.std.proofs.Common.{◌≡◌, ℕ, ◌+◌, ◌*◌, ◌/◌, ◌%◌, ◌^◌, ◌<◌, ◌≤◌, [], ◌∷◌, refl, ◌∙◌, ap, arith, length}
+use Rattle.std.specs.Prelude.{Option, Some, None, unwrap_or}
 use Rattle.std.specs.Option.{option_and_then, option_map_or}
 use Rattle.chdr_words.specs.Field.{field}
 use Rattle.chdr_words.specs.NodeInfo.{info_of, info_payload, node_kind_number, node_kind_of}
@@ -11,7 +11,7 @@ use Rattle.chdr_words.specs.declared.node_info.NodeKind.TheVariants as kinds
 use Rattle.net_nodes.specs.Perform.{info_answer}
 use Rattle.net_nodes.specs.Switch.{end_site}
 use Rattle.net_topology.specs.Links.{end_of, end_port, start_of, start_port}
-use Rattle.net_topology.specs.Tree.{FitsNode, IsTree, epid_at, epid_of, ports_of}
+use Rattle.net_topology.specs.Tree.{IsTree, epid_at, epid_of, ports_of}
 use Rattle.net_topology.specs.declared.plan.NodePlan.{NodePlan}
 use Rattle.net_topology.specs.declared.plan.NodePlan.TheVariants.{Crossbar, Adapter, Host, Endpoint}
 use Rattle.net_topology.specs.declared.plan.Plan.{Plan}
@@ -20,6 +20,7 @@ use Rattle.net_machine.specs.Nodes.{planned, site_by}
 use Rattle.net_machine.specs.Plans.{no_epid}
 use Rattle.net_lawful.specs.Messages.{FitsTree}
 use Rattle.net_walks.specs.Walks.{collector, information, inquiry, returner}
+use Rattle.net_walks.proofs.Laws.{ports_are_few}
 use Rattle.topology_walk.specs.declared.probes.Behind.TheVariants.{Node, Bare}
 use Rattle.topology_walk.specs.Answers.{behind_told, node_told, op_told}
 use Rattle.topology_walk.specs.Nodes.{found_over, kind_of}
@@ -117,15 +118,6 @@ node-tells tree (Some (Endpoint own bank)) x arrival node port fits =
 
 -- ---- the node behind a link
 
--- a node of a plan has 32 ports at most
-pub few-ports : (nodes : List NodePlan) (x : ℕ) → All FitsNode nodes → option_map_or ports_of (slice_get nodes x) 0 ≤ 32
-few-ports [] x all = omega arith
-few-ports (Crossbar ports ∷ nodes) zero all = (all zero (Crossbar ports) (omega arith)).1
-few-ports (Adapter ∷ nodes) zero all = omega arith
-few-ports (Host epid ∷ nodes) zero all = omega arith
-few-ports (Endpoint epid bank ∷ nodes) zero all = omega arith
-few-ports (node ∷ nodes) (suc x) all = few-ports nodes x (λ i d lt. all (suc i) d (omega (arith, lt)))
-
 short-epid : (tree : Plan) → FitsTree tree → (x : ℕ) → (unwrap_or (epid_at tree.nodes x) no_epid).0 < 2 ^ 16
 short-epid tree fits x = by_epid (epid_at tree.nodes x) refl
   where
@@ -144,7 +136,7 @@ node-behind tree is fits src d lt =
     node-tells tree (planned tree x) x (end_port tree.links d) (start_of tree.links d) (start_port tree.links d) (record {
       few = omega (arith, there, few, limit);
       by = joins.3;
-      ports = few-ports tree.nodes x fits.plan.nodes;
+      ports = ports_are_few tree x fits.plan;
       epid = short-epid tree fits x;
     })
 
