@@ -45,7 +45,7 @@ use Rattle.stream_endpoint.specs.declared.fault.Fault.{Fault}
 use Rattle.script_worlds.specs.WorldView.{WorldSeen}
 use Rattle.script_runner.specs.Controls.{IsControlAsked, IsControlCause, IsControlled, IsFirstRequest, IsRouteCause, control_of, control_past, was_asked}
 use Rattle.script_runner.specs.ScriptWorlds.{ScriptWorld}
-use Rattle.script_runner.specs.Standing.{HasTold, IsTold, Performs, Talks, WorldStandsFor}
+use Rattle.script_runner.specs.Standing.{AreToldFound, HasTold, IsTold, Performs, Talks, WorldStandsFor}
 use Rattle.script_runner.specs.Talks.{OnHost, OnHostNode}
 
 -- ---- the request of a command fits
@@ -233,6 +233,11 @@ abbrev pub asked_book : Option Control → Book
 asked_book None = book.Refused refusal.NoAck
 asked_book (Some ack) = book.Control ack
 
+-- it tells of no nodes
+asked-found : (tree : Plan) (o : Option Control) → AreToldFound tree (asked_book o)
+asked-found tree None = tt
+asked-found tree (Some ack) = tt
+
 -- a request that was asked is told so
 told-in : (w : State) (dst : Epid) (request : Control) (lose : List Fault) (found : Option Control) (new : Present) (left : List (Option Registers))
     → Asked w dst request lose found new left → IsTold (IsControlled dst request lose) w (asked_book found) new left
@@ -269,6 +274,7 @@ control-told old mid new slots left dst request lose found host some settled seq
     record {
       tree = (here one.0 one.1 one.2).stands.now.tree ∙ same-tree (marked lose one.0) dst request ∙ sym one.1.now.tree;
       settled = asked.settled;
+      found = asked-found old.present.tree found;
       each = λ w stands same. told-in w dst request lose found new.present left (here w stands same);
     }
 
@@ -306,6 +312,7 @@ pub control-refused : (net : NetSeen) (slots : List (Option Registers)) (dst : E
 control-refused net slots dst request lose why settled is = record {
   tree = refl;
   settled = settled;
+  found = tt;
   each = λ w stands same. refused-in net.present slots dst request lose why w stands same (cause-in net.present w request.src dst (Some why) stands is);
 }
 

@@ -3,5 +3,8 @@ pub mod Running
 pub mod Talking
 pub mod Controlling
 pub mod Walking
+pub mod Routing
 pub mod Lists
 pub mod Reading
+pub mod Draining
+pub mod Laws

@@ -39,15 +39,35 @@ begins slots seen is = (
   ),
 )
 
+-- the first k commands and the next are the first k + 1
+taken-more : (cs : List ScriptCommand) (k : ℕ) (c d : ScriptCommand) → k < length cs → get_or cs k d ≡ c → take k cs ++ c ∷ [] ≡ take (k + 1) cs
+taken-more cs k c d lt is =
+    let next-place : k + 1 ≡ suc k = omega arith in
+    sym (ap (λ (n : ℕ). take n cs) next-place ∙ take-suc cs k d lt ∙ ap (λ (x : ScriptCommand). take k cs ++ x ∷ []) is)
+
+goes-from : (slots : List (Option Registers)) (cs : List ScriptCommand) (bs : List Book) (k : ℕ) (c d : ScriptCommand) (b : Book) (new : WorldSeen)
+    (left : List (Option Registers)) (mid last : ScriptWorld) → k < length cs → get_or cs k d ≡ c → ArePerformed (first_world slots) (take k cs) bs mid
+    → IsPerformed mid c b last → WorldStandsFor new left last → IsSoFar slots (take (k + 1) cs) (bs ++ b ∷ []) new left
+goes-from slots cs bs k c d b new left mid last lt is done more stands = (
+  last,
+  (
+    subst (λ (xs : List ScriptCommand). ArePerformed (first_world slots) xs (bs ++ b ∷ []) last) (taken-more cs k c d lt is)
+        (one-more (first_world slots) mid last (take k cs) bs c b done more),
+    stands,
+  ),
+)
+
+goes-with : (slots : List (Option Registers)) (cs : List ScriptCommand) (bs : List Book) (k : ℕ) (c d : ScriptCommand) (b : Book) (new : WorldSeen)
+    (left : List (Option Registers)) (mid : ScriptWorld) → k < length cs → get_or cs k d ≡ c → ArePerformed (first_world slots) (take k cs) bs mid
+    → Performs mid c b new left → IsSoFar slots (take (k + 1) cs) (bs ++ b ∷ []) new left
+goes-with slots cs bs k c d b new left mid lt is done more =
+    goes-from slots cs bs k c d b new left mid more.next lt is done more.performed more.stands
+
 pub goes-on : (slots : List (Option Registers)) (cs : List ScriptCommand) (bs : List Book) (k : ℕ) (c d : ScriptCommand) (b : Book) (old new : WorldSeen)
     (banks left : List (Option Registers)) → k < length cs → get_or cs k d ≡ c → IsSoFar slots (take k cs) bs old banks
     → ((w : ScriptWorld) → WorldStandsFor old banks w → Performs w c b new left) → IsSoFar slots (take (k + 1) cs) (bs ++ b ∷ []) new left
 goes-on slots cs bs k c d b old new banks left lt is so-far next =
-    let p = next so-far.0 so-far.1.1 in
-    let more = one-more (first_world slots) so-far.0 p.next (take k cs) bs c b so-far.1.0 p.performed in
-    let next-place : k + 1 ≡ suc k = omega arith in
-    let taken : take (k + 1) cs ≡ take k cs ++ c ∷ [] = ap (λ (n : ℕ). take n cs) next-place ∙ take-suc cs k d lt ∙ ap (λ (x : ScriptCommand). take k cs ++ x ∷ []) is in
-    (p.next, (subst (λ (xs : List ScriptCommand). ArePerformed (first_world slots) xs (bs ++ b ∷ []) p.next) (sym taken) more, p.stands))
+    goes-with slots cs bs k c d b new left so-far.0 lt is so-far.1.0 (next so-far.0 so-far.1.1)
 
 pub fits-one : (version : ℕ) (cs : List ScriptCommand) (k : ℕ) (d : ScriptCommand) → Each (FitsCommand version) cs → k < length cs
     → FitsCommand version (get_or cs k d)

@@ -30,6 +30,7 @@ use Rattle.script_worlds.specs.Worlds.{Setup}
 use Rattle.script_worlds.specs.declared.runs.RunFault.TheVariants as fault
 use Rattle.stream_endpoint.specs.declared.fault.Fault.{Fault}
 use Rattle.stream_pump.proofs.Laws.{chosen_books_are_books}
+use Rattle.stream_pump.specs.Running.{CanRun}
 use Rattle.script_runner.specs.ScriptWorlds.{ScriptWorld, nodes_in, with_banks}
 use Rattle.script_runner.specs.Standing.{NetStandsFor, Performs, WorldStandsFor}
 use Rattle.script_runner.proofs.Quiet.{in-each-world, world_of}
@@ -89,16 +90,22 @@ pub tree-stays : (seed : ℕ) (plan : RunPlan) (old new : Present) (slots left :
 tree-stays seed plan old new slots left run w ends stands banks =
     (ends.net w stands banks).now.tree ∙ (shapes_stay (begun plan w) (moves_of run.journal)).tree ∙ sym stands.now.tree
 
+-- a plan that a settled net can begin can run in each state for which it stands
+pub can-run : (plan : RunPlan) (p : Present) (w : State) → IsSettledNow p → CanBegin p.tree p.nodes plan → StandsFor p w → CanRun plan w
+can-run plan p w settled can stands = record {
+  lawful = stands.lawful;
+  rest = (settled_states p w stands settled).rest;
+  can = subst (λ (t : Plan). CanBegin t w.nodes plan) stands.now.tree (subst (λ (ns : List Node). CanBegin p.tree ns plan) stands.now.nodes can);
+}
+
 -- and so it keeps what the nodes hold
 nodes-stay : (seed : ℕ) (plan : RunPlan) (old new : Present) (slots left : List (Option Registers)) (run : RunBook) (w : State)
     → Ends seed plan old new slots left run → IsSettledNow old → CanBegin old.tree old.nodes plan → StandsFor old w → w.banks ≡ slots
     → new.nodes ≡ old.nodes
 nodes-stay seed plan old new slots left run w ends settled can stands banks =
-    let rest = (settled_states old w stands settled).rest in
-    let begins : CanBegin w.tree w.nodes plan = subst (λ (t : Plan). CanBegin t w.nodes plan) stands.now.tree
-    (subst (λ (ns : List Node). CanBegin old.tree ns plan) stands.now.nodes can) in
-    let told = chosen_books_are_books seed plan w run (record { lawful = stands.lawful; rest = rest; can = begins }) (ends.book w stands banks) in
-    (ends.net w stands banks).now.nodes ∙ (runs_rest plan w run.journal stands.lawful rest begins told.whole).nodes ∙ sym stands.now.nodes
+    let runs = can-run plan old w settled can stands in
+    let told = chosen_books_are_books seed plan w run runs (ends.book w stands banks) in
+    (ends.net w stands banks).now.nodes ∙ (runs_rest plan w run.journal stands.lawful runs.rest runs.can told.whole).nodes ∙ sym stands.now.nodes
 
 -- and leaves the net as one of its network, settled
 pub ready-again : (tree : Option Plan) (seed : ℕ) (plan : RunPlan) (net new : NetSeen) (slots left : List (Option Registers)) (run : RunBook) (w : State)
@@ -114,45 +121,6 @@ ready-again (Some tree) seed plan net new slots left run w ready can ends rest s
           (nodes-stay seed plan net.present new.present slots left run w ends ready.settled can stands banks);
     }
 
--- a run that was done, in the world whose parts are those of the program's
-run-so : (setup : Setup) (seed : ℕ) (trace peak : Bool) (lose : List Fault) (plan : RunPlan) (net new : NetSeen) (slots left : List (Option Registers))
-    (run : RunBook) (machine : Option State) → plan ≡ plan_of setup.layout setup.graph.committed lose
-    → IsRunCause setup net.present.nodes lose None → Ends seed plan net.present new.present slots left run → NetStandsFor (Some net) machine
-    → Performs (world_of setup machine slots) (command.Run seed trace peak lose) (book.Run run) (record { setup = setup; net = Some new }) left
-run-so setup seed trace peak lose plan net new slots left run None value free ends stands = absurd stands
-run-so setup seed trace peak lose plan net new slots left run (Some state) value free ends stands =
-    let w = with_banks slots state in
-    let here = stands-loaded net.present state slots stands in
-    record {
-      next = world_of setup (Some (after_journal (begun plan w) run.journal)) left;
-      performed = record {
-        done = (
-          record {
-            free = subst (λ (nodes : List Node). IsRunCause setup nodes lose None) stands.now.nodes free;
-            start = begun plan w;
-            begins = ap (λ (q : RunPlan). Some (begun q w)) (sym value);
-            chosen = ends.book w here refl;
-          },
-          ap (λ (q : RunPlan). Some (after_journal (begun q w) run.journal)) value,
-        );
-        setup = refl;
-        banks = sym (ends.banks w here refl) ∙ ap (λ (q : RunPlan). (after_journal (begun q w) run.journal).banks) value;
-      };
-      stands = record { setup = refl; machine = ends.net w here refl; banks = refl };
-    }
-
--- a run that was done, in each world for which the program's stands
-pub run-performs : (s : WorldSeen) (seed : ℕ) (trace peak : Bool) (lose : List Fault) (plan : RunPlan) (net new : NetSeen)
-    (slots left : List (Option Registers)) (run : RunBook) (w : ScriptWorld) → IsRunPlan s lose plan → s.net ≡ Some net
-    → Ends seed plan net.present new.present slots left run → WorldStandsFor s slots w
-    → Performs w (command.Run seed trace peak lose) (book.Run run) (record { setup = s.setup; net = Some new }) left
-run-performs s seed trace peak lose plan net new slots left run w is here ends stands =
-    in-each-world (λ (v : ScriptWorld). Performs v (command.Run seed trace peak lose) (book.Run run) (record { setup = s.setup; net = Some new }) left)
-    s slots w stands
-    (run-so s.setup seed trace peak lose plan net new slots left run w.machine is.value
-    (subst (λ (n : Option NetSeen). IsRunCause s.setup (seen.nodes_in n) lose None) here is.free) ends
-    (subst (λ (n : Option NetSeen). NetStandsFor n w.machine) here stands.machine))
-
 -- the net of a run's plan is the world's
 same-net : (s : WorldSeen) (lose : List Fault) (plan : RunPlan) (net : NetSeen) (is : IsRunPlan s lose plan) → s.net ≡ Some net → is.net ≡ net
 same-net s lose plan net is here = ap (λ (o : Option NetSeen). unwrap_or o net) (sym is.here ∙ here)
@@ -163,6 +131,53 @@ rests s lose plan net is here = subst (λ (n : NetSeen). IsResting n.present) (s
 pub can-begin : (s : WorldSeen) (lose : List Fault) (plan : RunPlan) (net : NetSeen) → IsRunPlan s lose plan → s.net ≡ Some net
     → CanBegin net.present.tree net.present.nodes plan
 can-begin s lose plan net is here = subst (λ (n : NetSeen). CanBegin n.present.tree n.present.nodes plan) (same-net s lose plan net is here) is.can
+
+-- a net that is ready is settled
+settled-in : (tree : Option Plan) (net : NetSeen) → seen.AreReady tree (Some net) → IsSettledNow net.present
+settled-in None net ready = absurd ready
+settled-in (Some tree) net ready = ready.settled
+
+-- a run that was done, in the world whose parts are those of the program's
+run-so : (setup : Setup) (seed : ℕ) (trace peak : Bool) (lose : List Fault) (plan : RunPlan) (net new : NetSeen) (slots left : List (Option Registers))
+    (run : RunBook) (machine : Option State) → plan ≡ plan_of setup.layout setup.graph.committed lose
+    → IsRunCause setup net.present.nodes lose None → ((w : State) → StandsFor net.present w → CanRun plan w)
+    → Ends seed plan net.present new.present slots left run → NetStandsFor (Some net) machine
+    → Performs (world_of setup machine slots) (command.Run seed trace peak lose) (book.Run run) (record { setup = setup; net = Some new }) left
+run-so setup seed trace peak lose plan net new slots left run None value free runs ends stands = absurd stands
+run-so setup seed trace peak lose plan net new slots left run (Some state) value free runs ends stands =
+    let w = with_banks slots state in
+    let loaded = stands-loaded net.present state slots stands in
+    record {
+      next = world_of setup (Some (after_journal (begun plan w) run.journal)) left;
+      performed = record {
+        done = (
+          record {
+            free = subst (λ (nodes : List Node). IsRunCause setup nodes lose None) stands.now.nodes free;
+            state = w;
+            here = refl;
+            can = subst (λ (q : RunPlan). CanRun q w) value (runs w loaded);
+            chosen = subst (λ (q : RunPlan). IsChosenBook seed (begun q w) run) value (ends.book w loaded refl);
+          },
+          ap (λ (q : RunPlan). Some (after_journal (begun q w) run.journal)) value,
+        );
+        setup = refl;
+        banks = sym (ends.banks w loaded refl) ∙ ap (λ (q : RunPlan). (after_journal (begun q w) run.journal).banks) value;
+      };
+      stands = record { setup = refl; machine = ends.net w loaded refl; banks = refl };
+    }
+
+-- a run that was done, in each world for which the program's stands
+pub run-performs : (s : WorldSeen) (seed : ℕ) (trace peak : Bool) (lose : List Fault) (plan : RunPlan) (net new : NetSeen)
+    (slots left : List (Option Registers)) (run : RunBook) (w : ScriptWorld) → IsRunPlan s lose plan → s.net ≡ Some net
+    → seen.AreReady s.setup.tree (Some net) → Ends seed plan net.present new.present slots left run → WorldStandsFor s slots w
+    → Performs w (command.Run seed trace peak lose) (book.Run run) (record { setup = s.setup; net = Some new }) left
+run-performs s seed trace peak lose plan net new slots left run w is here ready ends stands =
+    in-each-world (λ (v : ScriptWorld). Performs v (command.Run seed trace peak lose) (book.Run run) (record { setup = s.setup; net = Some new }) left)
+    s slots w stands
+    (run-so s.setup seed trace peak lose plan net new slots left run w.machine is.value
+    (subst (λ (n : Option NetSeen). IsRunCause s.setup (seen.nodes_in n) lose None) here is.free)
+    (λ v. can-run plan net.present v (settled-in s.setup.tree net ready) (can-begin s lose plan net is here)) ends
+    (subst (λ (n : Option NetSeen). NetStandsFor n w.machine) here stands.machine))
 
 none-not-some : {A : Type 0} (x : A) → None ≡ Some x → ⊥
 none-not-some x e = absurd cc

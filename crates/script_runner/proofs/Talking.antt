@@ -19,7 +19,7 @@ use Rattle.script_worlds.specs.WorldView as seen
 use Rattle.script_worlds.specs.Worlds.{Setup}
 use Rattle.stream_endpoint.specs.declared.fault.Fault.{Fault}
 use Rattle.script_runner.specs.ScriptWorlds.{ScriptWorld, with_banks}
-use Rattle.script_runner.specs.Standing.{HasTold, NetStandsFor, Talks, WorldStandsFor}
+use Rattle.script_runner.specs.Standing.{AreToldFound, HasTold, NetStandsFor, Talks, WorldStandsFor}
 use Rattle.script_runner.specs.Talks.{FitsIn, OnHost, OnHostNode}
 use Rattle.script_runner.proofs.Quiet.{in-each-world, world_of}
 use Rattle.script_runner.proofs.Running.{stands-loaded}
@@ -58,6 +58,16 @@ pub fits-net : (tree : Option Plan) (net : NetSeen) (Fits : Plan → Type 0) →
     → Fits net.present.tree
 fits-net None net Fits ready fits = absurd ready
 fits-net (Some tree) net Fits ready fits = subst (λ (t : Plan). Fits t) (sym ready.tree_is) fits
+
+-- what was found in the net are nodes of the world's network
+pub told-found : (tree : Option Plan) (net : NetSeen) (told : Book) → seen.AreReady tree (Some net) → AreToldFound net.present.tree told
+    → FitsIn tree (λ t. AreToldFound t told)
+told-found None net told ready found = tt
+told-found (Some tree) net told ready found = subst (λ (t : Plan). AreToldFound t told) ready.tree_is found
+
+pub refused-found : (tree : Option Plan) (why : Refusal) → FitsIn tree (λ t. AreToldFound t (book.Refused why))
+refused-found None why = tt
+refused-found (Some tree) why = tt
 
 -- what holds whatever the network is
 pub fits-in : (tree : Option Plan) (Fits : Type 0) → Fits → FitsIn tree (λ t. Fits)

@@ -6,6 +6,7 @@ use Rattle.chdr_words.specs.declared.epid.Epid.{Epid}
 use Rattle.fabric_net.specs.Asking.{marked_now}
 use Rattle.fabric_net.specs.NetView.{NetSeen}
 use Rattle.fabric_net.specs.Standing.{StandsFor}
+use Rattle.found_nodes.specs.Found.{AreFound}
 use Rattle.host_talk.specs.Settled.{IsSettledNow}
 use Rattle.net_machine.specs.Moves.{marked}
 use Rattle.net_machine.specs.Nodes.{host_with}
@@ -16,7 +17,7 @@ use Rattle.rf_script_types.specs.declared.command.ScriptCommand.TheVariants as c
 use Rattle.script_books.specs.declared.book.Book.{Book}
 use Rattle.script_books.specs.declared.book.Book.TheVariants as book
 use Rattle.script_books.specs.declared.refusal.Refusal.TheVariants as refusal
-use Rattle.script_worlds.specs.WorldView.{WorldSeen}
+use Rattle.script_worlds.specs.WorldView.{AreFoundIn, WorldSeen}
 use Rattle.script_worlds.specs.Worlds.{Setup, found_in}
 use Rattle.stream_endpoint.specs.declared.fault.Fault.{Fault}
 use Rattle.topology_walk.specs.Discovery.{IsDiscovered, IsDiscoveredFrom}
@@ -27,7 +28,8 @@ use Rattle.topology_walk.specs.Walks.{AreProbed}
 use Rattle.walk_books.specs.declared.found.Found.{Found}
 use Rattle.script_runner.specs.Discoveries.{IsFree, IsWalkCause, IsWalkFrom, IsWalked}
 use Rattle.script_runner.specs.ScriptWorlds.{ScriptWorld}
-use Rattle.script_runner.specs.Standing.{HasTold, Performs, Talks}
+use Rattle.script_runner.specs.Standing.{AreToldFound, HasTold, Performs, Talks}
+use Rattle.script_runner.specs.Talks.{FitsIn}
 use Rattle.script_runner.proofs.Talking.{no-host}
 
 pub some-host : (tree : Plan) (host : Epid) (found : Bool) → found ≡ is_some (host_with tree host) → found ≡ true → IsSome (host_with tree host)
@@ -74,26 +76,15 @@ walked-from w src (Some (x, false)) old new slots left found stands same it = re
   banks = same ∙ sym it.kept;
 }
 
-walk-tree : (src : Epid) (o : Option (ℕ × Bool)) (old new : NetSeen) (slots left : List (Option Registers)) (found : Found)
-    → IsDiscoveredFrom o old slots src found new left → new.present.tree ≡ old.present.tree
-walk-tree src None old new slots left found it = absurd it
-walk-tree src (Some (x, true)) old new slots left found it = it.same
-walk-tree src (Some (x, false)) old new slots left found it = ap (λ (n : NetSeen). n.present.tree) it.net
-
-walk-settled : (src : Epid) (o : Option (ℕ × Bool)) (old new : NetSeen) (slots left : List (Option Registers)) (found : Found)
-    → IsSettledNow old.present → IsDiscoveredFrom o old slots src found new left → IsSettledNow new.present
-walk-settled src None old new slots left found settled it = absurd it
-walk-settled src (Some (x, true)) old new slots left found settled it = it.settled
-walk-settled src (Some (x, false)) old new slots left found settled it = subst (λ (n : NetSeen). IsSettledNow n.present) (sym it.net) settled
-
 -- a walk is told so
 pub walk-told : (old mid new : NetSeen) (slots left : List (Option Registers)) (host : Epid) (lose : List Fault) (found : Found)
-    → mid.present ≡ marked_now lose old.present → IsSettledNow mid.present
-    → ((w : State) → StandsFor old.present w → StandsFor mid.present (marked lose w)) → IsDiscovered mid slots host found new left
-    → HasTold (IsWalked host lose) old slots (book.Discover found) new left
-walk-told old mid new slots left host lose found named settled names walk = record {
-  tree = walk-tree host (host_with mid.present.tree host) mid new slots left found walk ∙ ap (λ (p : Present). p.tree) named;
-  settled = walk-settled host (host_with mid.present.tree host) mid new slots left found settled walk;
+    → mid.present ≡ marked_now lose old.present → ((w : State) → StandsFor old.present w → StandsFor mid.present (marked lose w))
+    → IsDiscovered mid slots host found new left → AreFound mid.present.tree found.nodes → IsSettledNow new.present
+    → new.present.tree ≡ mid.present.tree → HasTold (IsWalked host lose) old slots (book.Discover found) new left
+walk-told old mid new slots left host lose found named names walk nodes settled same_tree = record {
+  tree = same_tree ∙ ap (λ (p : Present). p.tree) named;
+  found = subst (λ (p : Present). AreFound p.tree found.nodes) named nodes;
+  settled = settled;
   each = λ w stands same.
       let marks = names w stands in
       let it = walked-from (marked lose w) host (host_with mid.present.tree host) mid new slots left found marks same walk in
@@ -112,6 +103,7 @@ pub walk-refused : (net : NetSeen) (slots : List (Option Registers)) (host : Epi
 walk-refused net slots host lose settled none = record {
   tree = refl;
   settled = settled;
+  found = tt;
   each = λ w stands same. record {
     end = w;
     tells = (
@@ -125,6 +117,11 @@ walk-refused net slots host lose settled none = record {
 }
 
 -- ---- in the worlds of the laws
+
+-- nodes that were found are those of the world's network
+pub nodes-found : (tree : Option Plan) (found : Found) → FitsIn tree (λ t. AreToldFound t (book.Discover found)) → AreFoundIn tree (Some found)
+nodes-found None found fits = tt
+nodes-found (Some tree) found fits = fits
 
 -- a program's world that keeps what a book tells was found
 abbrev pub keeps : Book → WorldSeen → WorldSeen

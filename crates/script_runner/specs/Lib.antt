@@ -2,7 +2,9 @@ pub mod ScriptWorlds
 pub mod Talks
 pub mod Controls
 pub mod Discoveries
+pub mod Routes
 pub mod Performed
 pub mod Standing
+pub mod Draining
 pub mod FaultLines
 pub mod Outcome

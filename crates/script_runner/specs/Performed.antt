@@ -18,8 +18,10 @@ use Rattle.script_worlds.specs.Books.{IsNetBook, IsQuietBook}
 use Rattle.script_worlds.specs.Causes.{IsRunCause}
 use Rattle.script_worlds.specs.Worlds.{IsNext, plan_of, unless_refused}
 use Rattle.stream_endpoint.specs.declared.fault.Fault.{Fault}
+use Rattle.stream_pump.specs.Running.{CanRun}
 use Rattle.script_runner.specs.Controls.{IsControlled, control_of}
 use Rattle.script_runner.specs.Discoveries.{IsWalked}
+use Rattle.script_runner.specs.Routes.{IsRouting, nodes_of}
 use Rattle.script_runner.specs.ScriptWorlds.{ScriptWorld, banks_in, first_world, nodes_in, state_in}
 use Rattle.script_runner.specs.Talks.{TalksOn}
 
@@ -37,12 +39,14 @@ opened world lose = option_map (begun (plan_in world lose)) (state_in world)
 abbrev pub closed : ScriptWorld → List Fault → RunBook → Option State
 closed world lose run = option_map (λ w. after_journal w run.journal) (opened world lose)
 
--- nothing refused the run, and the book is that of the run that one thread takes with a seed
+-- Nothing refused the run, and its plan can run in the state of the machine; the book is that of the run that one
+-- thread takes with a seed.
 pub record IsRunDone (world : ScriptWorld) (seed : ℕ) (lose : List Fault) (run : RunBook) : Type 0 where
   pub free : IsRunCause world.setup (nodes_in world.machine) lose None
-  pub start : State
-  pub begins : opened world lose ≡ Some start
-  pub chosen : IsChosenBook seed start run
+  pub state : State
+  pub here : state_in world ≡ Some state
+  pub can : CanRun (plan_in world lose) state
+  pub chosen : IsChosenBook seed (begun (plan_in world lose) state) run
 
 abbrev pub IsRunBook : ScriptWorld → ℕ → List Fault → Book → Type 0
 IsRunBook world seed lose (book.Refused why) = IsRunCause world.setup (nodes_in world.machine) lose (Some why)
@@ -79,7 +83,8 @@ IsTalk world Tells told left = TalksOn Tells (state_in world) told left
 abbrev pub IsDone : ScriptWorld → ScriptCommand → Book → Option State → Type 0
 IsDone world (command.Net nodes links room routed limit) told left = IsBuilt world (plan_of nodes links room limit) routed told left
 IsDone world (command.Discover host lose) told left = IsTalk world (IsWalked host lose) told left
-IsDone world (command.Route host from to lose) told left = IsLeft world told left
+IsDone world (command.Route host from to lose) told left =
+    IsTalk world (IsRouting (nodes_of world.setup.found) host from to lose) told left
 IsDone world (command.Control host to port op addr words enables lose) told left =
     IsTalk world (IsControlled to (control_of host port op addr words enables) lose) told left
 IsDone world (command.Unload port) told left = IsQuiet world (command.Unload port) told left
@@ -101,6 +106,7 @@ banks_past world lose told = world.banks
 abbrev pub banks_after : ScriptWorld → ScriptCommand → Book → Option State → List (Option Registers)
 banks_after world (command.Unload port) told left = unless_refused told world.banks (slice_set world.banks port None)
 banks_after world (command.Discover host lose) told left = banks_in world.banks left
+banks_after world (command.Route host from to lose) told left = banks_in world.banks left
 banks_after world (command.Control host to port op addr words enables lose) told left = banks_in world.banks left
 banks_after world (command.Run seed trace peak lose) told left = banks_past world lose told
 banks_after world c told left = world.banks

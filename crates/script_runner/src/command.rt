@@ -5,6 +5,7 @@ ghost use Rattle.script_runner.specs.Standing.{Performs, WorldStandsFor};
 
 use crate::controls::{Asking, request_of};
 use crate::discoveries::discover;
+use crate::routes::route;
 use crate::runs::run;
 use crate::talks::converse;
 use block_registers::RegisterSlots;
@@ -17,7 +18,7 @@ use std::alloc::Global;
 
 /// Performs one command on one thread, and returns its book.
 ///
-/// Routes, twins and duplexes aren't performed: their book is `Refused(NotBuilt)`. After `Memory` the world is
+/// Twins and duplexes aren't performed: their book is `Refused(NotBuilt)`. After `Memory` the world is
 /// only good to be dropped. Rule: docs/scripts-and-reports.md.
 pub fn run_command_one<B: RegisterSlots>(
     alloc: Global,
@@ -34,6 +35,12 @@ pub fn run_command_one<B: RegisterSlots>(
     }
     match command {
         ScriptCommand::Discover { host, lose } => discover(alloc, world, banks, *host, lose),
+        ScriptCommand::Route {
+            host,
+            from,
+            to,
+            lose,
+        } => route(alloc, world, banks, *host, *from, *to, lose),
         ScriptCommand::Control {
             host,
             to,
@@ -53,8 +60,9 @@ pub fn run_command_one<B: RegisterSlots>(
             converse(alloc, world, banks, &asking)
         }
         ScriptCommand::Run { seed, lose, .. } => run(alloc, world, banks, Seed(*seed), lose),
-        ScriptCommand::Route { .. } | ScriptCommand::Twin { .. } | ScriptCommand::Duplex { .. } =>
-            Ok(Book::Refused(Refusal::NotBuilt)),
+        ScriptCommand::Twin { .. } | ScriptCommand::Duplex { .. } => Ok(Book::Refused(
+            Refusal::NotBuilt,
+        )),
         ScriptCommand::Net { .. }
         | ScriptCommand::Unload { .. }
         | ScriptCommand::Block { .. }

@@ -7,7 +7,7 @@ ghost use Rattle.net_machine.specs.Moves.{marked};
 ghost use Rattle.net_machine.specs.Nodes.{host_with};
 ghost use Rattle.net_machine.specs.State.{State};
 ghost use Rattle.script_runner.specs.ScriptWorlds.{ScriptWorld};
-ghost use Rattle.script_runner.specs.Standing.{HasTold, Talks, WorldStandsFor};
+ghost use Rattle.script_runner.specs.Standing.{AreToldFound, HasTold, Talks, WorldStandsFor};
 ghost use Rattle.script_runner.specs.Talks.{FitsIn};
 
 use block_registers::RegisterSlots;
@@ -54,8 +54,9 @@ pub(crate) fn converse<T: Talk, B: RegisterSlots>(
     talk: &T,
 ) -> Result<Book, Memory>
     requires { FitsIn world.old.setup.tree (T.Fits talk.now) }
-    ensures { IfOk result (λ book. (w : ScriptWorld) → WorldStandsFor world.old (B.slots banks.old) w →
+    ensures talks { IfOk result (λ book. (w : ScriptWorld) → WorldStandsFor world.old (B.slots banks.old) w →
         Talks (T.Tells talk.now) w book world.new (B.slots banks.new)) }
+    ensures found { IfOk result (λ book. FitsIn world.new.setup.tree (λ tree. AreToldFound tree book)) }
 {
     match world.take_net() {
         Some(mut net) => {

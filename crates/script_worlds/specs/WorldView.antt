@@ -4,6 +4,7 @@ use Rattle.fabric_events.specs.Begun.{built_now}
 use Rattle.fabric_net.specs.NetView.{NetSeen}
 use Rattle.block_registers.specs.Registers.{Registers}
 use Rattle.fabric_net.specs.Standing.{StandsFor}
+use Rattle.found_nodes.specs.Found.{AreFound}
 use Rattle.host_talk.specs.Settled.{IsSettledNow}
 use Rattle.net_machine.specs.Begin.{built}
 use Rattle.net_machine.specs.State.{Node}
@@ -12,6 +13,7 @@ use Rattle.run_plans.specs.Layouts.{IsLayout, StandIn}
 use Rattle.run_plans.specs.declared.layout.Layout.{Layout}
 use Rattle.script_worlds.specs.Worlds.{Setup}
 use Rattle.script_worlds.specs.declared.world.World.TheInside.{Inside}
+use Rattle.walk_books.specs.declared.found.Found.{Found}
 
 pub record WorldSeen : Type 0 where
   pub setup : Setup
@@ -48,10 +50,17 @@ AreReady tree None = Unit {0}
 AreReady None (Some net) = ⊥
 AreReady (Some tree) (Some net) = IsReady tree net
 
+-- what was found are nodes of the network
+abbrev pub AreFoundIn : Option Plan → Option Found → Type 0
+AreFoundIn None found = Unit {0}
+AreFoundIn (Some tree) None = Unit {0}
+AreFoundIn (Some tree) (Some found) = AreFound tree found.nodes
+
 pub record IsSound (world : Inside) : Type 0 where
   pub layout : IsLayout world.graph.diagram world.layout
   pub stands : StandsOn world.topology world.layout
   pub ready : AreReady world.topology world.net
+  pub found : AreFoundIn world.topology world.found
 
 -- a net as it is built stands for the network as it is built, over any banks
 abbrev pub BuiltStands : Plan → Bool → Type 0

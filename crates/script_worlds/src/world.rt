@@ -1,5 +1,5 @@
 ghost use Rattle.std.specs.Prelude.{◌≡◌, None, Some, option_copied};
-ghost use Rattle.script_worlds.specs.WorldView.{AreReady};
+ghost use Rattle.script_worlds.specs.WorldView.{AreFoundIn, AreReady};
 ghost use Rattle.script_worlds.specs.Worlds.{nothing};
 
 use fabric_net::Net;
@@ -57,13 +57,15 @@ impl World {
 
     /// What the last walk of the network found.
     pub fn found(&self) -> Option<&Found>
-        ensures { option_copied result ≡ self.now.setup.found }
+        ensures found { option_copied result ≡ self.now.setup.found }
+        ensures sound { AreFoundIn self.now.setup.tree self.now.setup.found }
     {
         self.found.as_ref()
     }
 
     /// Keeps what a walk of the network found, in place of what an earlier one did.
     pub fn find(&mut self, found: Found)
+        requires { AreFoundIn self.old.setup.tree (Some found) }
         ensures { self.new ≡ record self.old { setup = record self.old.setup { found = Some found } } }
     {
         self.found = Some(found);

@@ -9,6 +9,7 @@ use Rattle.script_worlds.specs.Quiet.{IsPassed, IsPerformed}
 use Rattle.script_runner.specs.Controls.{IsFirstRequest}
 use Rattle.script_runner.proofs.Controlling.{control-done, request-first}
 use Rattle.script_runner.proofs.Quiet.{passed-stays, performed-behind, quiet-performs}
+use Rattle.script_runner.proofs.Routing.{ends-differ}
 use Rattle.script_runner.proofs.Talking.{fits-in}
 use Rattle.script_runner.proofs.command.run_command_one.Goals as goal
 
@@ -30,6 +31,19 @@ returns-in-Discover g c =
     (passed-stays c.args.command.now c.args.world.now c.perform.new.self (slots c.args.banks.now) (slots c.perform.new.banks) c.in_ok-book.field-0
     c.in_default.is c.in_ok-book.ensures) c.discover.ensures
 
+pub route-requires : goal.route-requires
+route-requires g c =
+    ends-differ c.in-Route.from c.in-Route.to
+    (subst (λ (command : ScriptCommand). FitsCommand c.requires.0 command) c.in-Route.is c.requires.1).3
+
+pub returns-in-Route : goal.returns-in-Route
+returns-in-Route g c =
+    let slots = g.B.RegisterSlots.slots in
+    performed-behind c.args.world.now c.perform.new.self c.route.new.world (slots c.args.banks.now) (slots c.perform.new.banks) (slots c.route.new.banks)
+    c.args.command.now (command.Route c.in-Route.host c.in-Route.from c.in-Route.to c.in-Route.lose) c.route.result c.in-Route.is
+    (passed-stays c.args.command.now c.args.world.now c.perform.new.self (slots c.args.banks.now) (slots c.perform.new.banks) c.in_ok-book.field-0
+    c.in_default.is c.in_ok-book.ensures) c.route.ensures
+
 pub converse-requires : goal.converse-requires
 converse-requires g c =
     fits-in c.perform.new.self.setup.tree (IsFirstRequest c.request_of-request.result)
@@ -48,4 +62,4 @@ returns-in-Control g c =
     (passed-stays c.args.command.now c.args.world.now c.perform.new.self (slots c.args.banks.now) (slots c.perform.new.banks) c.in_ok-book.field-0
     c.in_default.is c.in_ok-book.ensures)
     (control-done c.perform.new.self c.converse.new.world (slots c.perform.new.banks) (slots c.converse.new.banks) it.host it.to it.port it.op it.addr
-    it.words it.enables it.lose c.request_of-request.result c.converse.result c.request_of-request.ensures c.converse.ensures)
+    it.words it.enables it.lose c.request_of-request.result c.converse.result c.request_of-request.ensures c.converse.ensures.talks)

@@ -10,7 +10,7 @@ pub returns : goal.returns
 returns g c = λ w stands.
     let slots = g.B.RegisterSlots.slots c.converse.new.banks in
     let told = c.in_ok-book.book in
-    let walked = walk-performs w c.args.host c.args.lose.now told c.converse.new.world slots (c.in_ok-book.ensures w stands) in
+    let walked = walk-performs w c.args.host c.args.lose.now told c.converse.new.world slots (c.in_ok-book.ensures.talks w stands) in
     let kept : c.match-book.world ≡ keeps told c.converse.new.world =
     elim c.match-book.branch [
       | in-Discover+in_ok-copy d ↦

@@ -18,5 +18,5 @@ returns-then-not-has_host g c =
 pub returns : goal.returns
 returns g c =
     walk-told c.args.net.now c.name.new.net c.discover.new.net (g.B.RegisterSlots.slots c.args.banks.now) (g.B.RegisterSlots.slots c.discover.new.banks)
-    c.args.host c.args.lose.now c.in_ok-found.found c.in_ok-name.ensures.present c.in_ok-name.ensures.settled c.in_ok-name.ensures.machine
-    c.in_ok-found.ensures.walked
+    c.args.host c.args.lose.now c.in_ok-found.found c.in_ok-name.ensures.present c.in_ok-name.ensures.machine
+    c.in_ok-found.ensures.walked c.in_ok-found.ensures.found c.in_ok-found.ensures.settled c.in_ok-found.ensures.tree

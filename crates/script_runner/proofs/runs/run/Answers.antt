@@ -26,4 +26,4 @@ returns g c = λ w trace peak stands.
     c.put_net.ensures ∙ ap (λ (s : WorldSeen). record s { net = Some c.run_one.new.net }) c.take_net.ensures.left in
     subst (λ (s : WorldSeen). Performs w (command.Run c.args.seed.0 trace peak c.args.lose.now) (book.Run c.in_ok-run-in-Some.run') s left) (sym put)
     (run-performs world c.args.seed.0 trace peak c.args.lose.now c.in-Ok.plan c.in-Some.net c.run_one.new.net slots left c.in_ok-run-in-Some.run' w
-    c.in-Ok.ensures.plan (sym c.in-Some.ensures.net) (record { book = ran.book; net = ran.net; banks = ran.banks }) stands)
+    c.in-Ok.ensures.plan (sym c.in-Some.ensures.net) c.in-Some.ensures.ready (record { book = ran.book; net = ran.net; banks = ran.banks }) stands)

@@ -10,4 +10,5 @@ invariant_of-self c =
       stands = stands_on old.topology c.place.new.self tree c.in-Some.is
           (c.in-Ok.ensures.stands tree (stand_in old.topology old.layout tree c.in-Some.is c.self.invariant.stands) c.in_default-block_refusal.ensures.stands);
       ready = c.self.invariant.ready;
+      found = c.self.invariant.found;
     }

@@ -12,4 +12,5 @@ invariant_of-self c =
       stands = subst (λ (layout : Layout). StandsOn old.topology layout) (sym c.in-Ok.ensures.ok)
           (stream_stands old.topology old.layout c.args.from c.args.to c.args.terms c.self.invariant.stands);
       ready = c.self.invariant.ready;
+      found = c.self.invariant.found;
     }

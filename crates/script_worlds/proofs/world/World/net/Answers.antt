@@ -24,4 +24,5 @@ invariant_of-self c =
       layout = subst (λ (graph : State). IsLayout graph.diagram layout.result) (sym c.new.ensures) layout.ensures.empty;
       stands = none_stand c.in-Ok.topology layout.result layout.ensures.value;
       ready = built_ready c.in-Ok.topology c.args.routed c.in_ok-net-in-Ok.net made.present made.rest;
+      found = tt;
     }
