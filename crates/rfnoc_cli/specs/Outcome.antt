@@ -31,13 +31,14 @@ pub record IsWritten {K : Type 0} (written : K → Option (List ℕ)) (old new :
 abbrev pub generated_text : ℕ → List ℕ
 generated_text n = compact_text (script_text (generated n)) ++ codes "\n"
 
--- `gen N --run`: the generated script, performed on one thread over these banks
+-- `gen N --run`: the generated script, performed on one thread over these banks; no command of it is refused, and all
+-- its streams are drained
 pub record IsGeneratedRun {K : Type 0} (n : ℕ) (written : K → Option (List ℕ)) (before now : K)
     (books : List Book) (old new : List (Option Registers)) (status : ℕ) : Type 0 where
-  pub known : (status ≡ 0) ⊎ (status ≡ 1) ⊎ (status ≡ 4) ⊎ (status ≡ 5)
-  pub performed : (status ≡ 0) ⊎ (status ≡ 1) ⊎ (status ≡ 4) → IsOneThread (generated n).commands books old new
-  pub tells : (status ≡ 0) ⊎ (status ≡ 1) → status ≡ told_status books
-  pub told : (status ≡ 0) ⊎ (status ≡ 1) → Adds (written before) (written now) (report_of (generated n) (record { list = books }))
+  pub known : (status ≡ 0) ⊎ (status ≡ 4) ⊎ (status ≡ 5)
+  pub performed : (status ≡ 0) ⊎ (status ≡ 4) → IsOneThread (generated n).commands books old new
+  pub whole : (status ≡ 0) ⊎ (status ≡ 4) → told_status books ≡ 0
+  pub told : status ≡ 0 → Adds (written before) (written now) (report_of (generated n) (record { list = books }))
   pub torn : status ≡ 4 → AddsPrefix (written before) (written now) (report_of (generated n) (record { list = books }))
   pub begun : status ≡ 5 → (now ≡ before) × IsOneThreadSoFar (generated n).commands books
 
@@ -102,4 +103,4 @@ IsStatus (Some Show) bytes books status = status ≡ status_of (fault_of bytes)
 IsStatus (Some Check) bytes books status = status ≡ status_of (fault_of bytes)
 IsStatus (Some (Pcap port)) bytes books status = status ≡ pcap_status (pcap_seen_of port bytes)
 IsStatus (Some (Gen n)) bytes books status = status ≡ 0
-IsStatus (Some (GenRun n)) bytes books status = status ≡ told_status books
+IsStatus (Some (GenRun n)) bytes books status = status ≡ 0

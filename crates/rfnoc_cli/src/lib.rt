@@ -16,4 +16,6 @@ mod pcap_tests;
 #[cfg(test)]
 mod row_tests;
 #[cfg(test)]
+mod talk_tests;
+#[cfg(test)]
 mod tests;

@@ -3,7 +3,7 @@ use crate::tests::{REPORT, SCRIPT, run, run_changed, run_words};
 use std::alloc::{AllocError, Global};
 use std::test::Fail;
 
-fn joined(alloc: Global, pieces: &[&str]) -> Result<String, AllocError> {
+pub(crate) fn joined(alloc: Global, pieces: &[&str]) -> Result<String, AllocError> {
     let mut text = String::new(alloc);
     for piece in pieces {
         text.push_str(*piece)?;

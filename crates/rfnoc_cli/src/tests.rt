@@ -55,22 +55,34 @@ fn words_of(alloc: Global, words: &[&str]) -> Result<Vec<String>, Fail> {
 pub(crate) fn call(
     alloc: Global,
     words: &[&str],
+    src: MemSource,
+    cuts: CountList,
+    fails: CountList,
+) -> Result<Told, Fail> {
+    let mut banks = Banks::new(alloc)?;
+    call_over(alloc, words, src, cuts, fails, &mut banks)
+}
+
+/// The same over these banks.
+pub(crate) fn call_over(
+    alloc: Global,
+    words: &[&str],
     mut src: MemSource,
     cuts: CountList,
     fails: CountList,
+    banks: &mut Banks,
 ) -> Result<Told, Fail> {
     let words = words_of(alloc, words)?;
     let mut out = MemSink::new(alloc, cuts, fails, 4096)?;
     let mut books = Books {
         list: Items::new(alloc),
     };
-    let mut banks = Banks::new(alloc)?;
     let status = rfnoc(
         alloc,
         words.as_slice(),
         &mut src,
         &mut out,
-        &mut banks,
+        banks,
         &mut books,
     );
     Ok(Told { status, out, books })
