@@ -9,7 +9,7 @@ use Rattle.chdr_packets.specs.declared.packet.Packet.{Packet}
 use Rattle.chdr_words.specs.declared.command.CmdOp.{CmdOp}
 use Rattle.chdr_words.specs.declared.command.CmdOp.TheVariants.{Init, Ping, Resync, Other}
 use Rattle.chdr_words.specs.declared.epid.Epid.{Epid}
-use Rattle.stream_endpoint.proofs.Laws.{credit_is_tested, stuck_is_tested}
+use Rattle.endpoint_laws.proofs.Laws.{credit_is_tested, stuck_is_tested}
 use Rattle.stream_endpoint.specs.Counts.{is_none}
 use Rattle.stream_endpoint.specs.Flow.{has_room}
 use Rattle.stream_endpoint.specs.Orders.{MayOrder as MayOrderWhen}

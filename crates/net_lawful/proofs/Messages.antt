@@ -12,7 +12,7 @@ use Rattle.chdr_packets.specs.declared.packet.Packet.{Packet}
 use Rattle.chdr_words.specs.declared.command.CmdOp.{CmdOp}
 use Rattle.chdr_words.specs.declared.command.CmdOp.TheVariants.{Init, Ping, Resync, Other}
 use Rattle.stream_endpoint.specs.Receiver.{Receiver}
-use Rattle.stream_endpoint.proofs.Laws.{command_means, status_spells}
+use Rattle.endpoint_laws.proofs.Laws.{command_means, status_spells}
 use Rattle.stream_laws.specs.Machine.{Core}
 use Rattle.stream_laws.proofs.Laws.{held_within}
 use Rattle.net_machine.specs.declared.event.Event.{Event}

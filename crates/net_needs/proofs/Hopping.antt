@@ -25,7 +25,7 @@ use Rattle.net_topology.specs.declared.plan.Plan.{Plan}
 use Rattle.net_topology.proofs.Laws.{links_join_ports}
 use Rattle.stream_endpoint.specs.Receiver.{FindsRoom, Receiver}
 use Rattle.stream_endpoint.specs.InEnd.{kept_receiver}
-use Rattle.stream_endpoint.proofs.Laws.{kept_finds_room}
+use Rattle.endpoint_laws.proofs.Laws.{kept_finds_room}
 use Rattle.net_machine.specs.declared.plan.BlockPlan.{BlockPlan}
 use Rattle.net_machine.specs.declared.plan.RunPlan.{RunPlan}
 use Rattle.net_machine.specs.CanBegin.{may_tell_time, size_from}

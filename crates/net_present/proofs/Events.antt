@@ -11,7 +11,7 @@ use Rattle.chdr_words.specs.declared.command.Command.{Command}
 use Rattle.chdr_words.specs.declared.status.Status.{Status}
 use Rattle.net_topology.specs.Links.{link_at}
 use Rattle.net_topology.specs.declared.plan.Plan.{Plan}
-use Rattle.stream_endpoint.proofs.Laws.{kept_numbers, kept_orders, kept_status}
+use Rattle.endpoint_laws.proofs.Laws.{kept_numbers, kept_orders, kept_status}
 use Rattle.stream_endpoint.specs.Epochs.{ordered_by, told_by}
 use Rattle.stream_endpoint.specs.InEnd.{status_of}
 use Rattle.stream_endpoint.specs.OutEnd.{command_of}

@@ -10,10 +10,10 @@ use Rattle.chdr_words.specs.declared.command.CmdOp.TheVariants.{Init, Ping, Resy
 use Rattle.chdr_words.specs.declared.command.Command.{Command}
 use Rattle.chdr_words.specs.declared.status.Status.{Status}
 use Rattle.chdr_words.specs.declared.status.StatusCode.{StatusCode}
-use Rattle.stream_endpoint.proofs.Laws.{kept_arrival, kept_arrives, kept_commands, kept_hears, kept_obeys, kept_reports, kept_sends, kept_takes}
+use Rattle.endpoint_laws.proofs.Laws.{kept_arrival, kept_arrives, kept_commands, kept_hears, kept_obeys, kept_reports, kept_sends, kept_takes}
 use Rattle.stream_endpoint.specs.Epochs.{Cut, Told}
 use Rattle.stream_endpoint.specs.InEnd.{Means, code_by, counts_of, kept_receiver}
-use Rattle.stream_endpoint.specs.Laws.{SpellsTold}
+use Rattle.endpoint_laws.specs.Laws.{SpellsTold}
 use Rattle.stream_endpoint.specs.OutEnd.{kept_sender, told_by}
 use Rattle.stream_endpoint.specs.Receiver.{Receiver, arrival, arrives, expected, takes}
 use Rattle.stream_endpoint.specs.Sender.{Sender, hears}

@@ -3,7 +3,7 @@ use Rattle.std.specs.Prelude.{◌≡◌, ℕ, ◌<◌, ◌≤◌, List, ◌∷�
 use Rattle.block_library.specs.Blocks.{FitsKind, inputs}
 use Rattle.chdr_packets.specs.declared.packet.Body.{Body}
 use Rattle.chdr_packets.specs.declared.packet.Body.TheVariants as body
-use Rattle.stream_endpoint.specs.Laws.{SpellsTold}
+use Rattle.endpoint_laws.specs.Laws.{SpellsTold}
 use Rattle.stream_endpoint.specs.InEnd.{Means}
 use Rattle.net_machine.specs.declared.plan.RunPlan.{RunPlan}
 use Rattle.chdr_words.specs.declared.epid.Epid.{Epid}

@@ -12,7 +12,7 @@ use Rattle.chdr_packets.specs.declared.packet.Packet.{Packet}
 use Rattle.chdr_words.specs.declared.command.CmdOp.{CmdOp}
 use Rattle.chdr_words.specs.declared.command.CmdOp.TheVariants.{Init, Ping, Resync, Other}
 use Rattle.chdr_words.specs.declared.epid.Epid.{Epid}
-use Rattle.stream_endpoint.proofs.Laws.{stuck_is_tested}
+use Rattle.endpoint_laws.proofs.Laws.{stuck_is_tested}
 use Rattle.stream_endpoint.specs.Epochs.{ordered_by}
 use Rattle.stream_endpoint.specs.Orders.{MayOrder as MayOrderWhen}
 use Rattle.stream_endpoint.specs.OutEnd.{command_of}

@@ -1,9 +1,7 @@
-pub mod Calls
 pub mod Counts
 pub mod Epochs
 pub mod Flow
 pub mod InEnd
-pub mod Laws
 pub mod Orders
 pub mod OutEnd
 pub mod Receiver

@@ -5,7 +5,7 @@ use mathlib.Core.List.{IsPrefix}
 use Rattle.stream_endpoint.specs.Counts.{minus_modulo, spelled, spelled_minus}
 use Rattle.stream_endpoint.specs.declared.state.Gap.{Gap}
 use Rattle.stream_endpoint.specs.InEnd.{code_by, info_by}
-use Rattle.stream_endpoint.proofs.Laws.{status_spells}
+use Rattle.endpoint_laws.proofs.Laws.{status_spells}
 use Rattle.stream_laws.specs.Machine.{Cut, Load, State, Terms, number_at, opens}
 use Rattle.stream_laws.specs.Acts.{Act, IsLegal, after, after_all}
 use Rattle.stream_laws.specs.Chains.{IsLost, flying, packets_told, bytes_told}

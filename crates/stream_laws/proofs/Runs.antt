@@ -5,7 +5,7 @@ use Rattle.chdr_words.specs.declared.command.CmdOp.TheVariants.{Init, Ping, Resy
 use Rattle.stream_endpoint.specs.Orders.{MayOrder as MayOrderWhen}
 use Rattle.stream_endpoint.specs.Receiver.{is_due}
 use Rattle.stream_endpoint.specs.Sender.{Sender}
-use Rattle.stream_endpoint.proofs.Laws.{order_is_tested as order_is_tested_when, stuck_is_tested as stuck_is_tested_at}
+use Rattle.endpoint_laws.proofs.Laws.{order_is_tested as order_is_tested_when, stuck_is_tested as stuck_is_tested_at}
 use Rattle.stream_laws.specs.Machine.{Load, State, Terms}
 use Rattle.stream_laws.specs.Acts.{Act, Allowed, after, is_empty, is_quiet, is_stuck, next_wire, Fill, Close, Enter, Order, Keep, Break, Discard, Obey, Renew, Take, Report, Hear, LosePacket, LoseCommand, LoseStatus}
 use Rattle.stream_laws.specs.Runs.{OrderIsTested, QuietIsTested, SendsWhatWasMade, StuckIsTested, made, made_by}

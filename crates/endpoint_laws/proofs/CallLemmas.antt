@@ -4,9 +4,9 @@ use Rattle.stream_endpoint.specs.InEnd.{Receiving, kept as kept_in}
 use Rattle.stream_endpoint.specs.OutEnd.{Sending, kept as kept_out, told_by}
 use Rattle.stream_endpoint.specs.Receiver.{Receiver}
 use Rattle.stream_endpoint.specs.Sender.{Sender}
-use Rattle.stream_endpoint.specs.Calls.{AllMay, Arrive, Arrival, Hear, InAnswer, InCall, MayCallIn, MayCallOut, Number, Obey, Order, Ordered, OutAnswer, OutCall, Report, Reported, Send, Take, after_calls, after_in, after_out, answer_in, answer_out, answers, kept_after_in, kept_after_out}
-use Rattle.stream_endpoint.specs.Laws.{AnyCallsReceive, AnyCallsSend}
-use Rattle.stream_endpoint.proofs.KeptEnds.{kept_arrival, kept_arrives, kept_commands, kept_finds_room, kept_hears, kept_numbers, kept_obeys, kept_orders, kept_reports, kept_sends, kept_status, kept_takes}
+use Rattle.endpoint_laws.specs.Calls.{AllMay, Arrive, Arrival, Hear, InAnswer, InCall, MayCallIn, MayCallOut, Number, Obey, Order, Ordered, OutAnswer, OutCall, Report, Reported, Send, Take, after_calls, after_in, after_out, answer_in, answer_out, answers, kept_after_in, kept_after_out}
+use Rattle.endpoint_laws.specs.Laws.{AnyCallsReceive, AnyCallsSend}
+use Rattle.endpoint_laws.proofs.KeptEnds.{kept_arrival, kept_arrives, kept_commands, kept_finds_room, kept_hears, kept_numbers, kept_obeys, kept_orders, kept_reports, kept_sends, kept_status, kept_takes}
 
 sending-with : (end : Sending) (s t : Sender) → s ≡ t
     → (let p : Sending = record end { sender = s } in p) ≡ record end { sender = t }

@@ -4,8 +4,8 @@ use Rattle.chdr_words.specs.declared.command.CmdOp.TheVariants.{Init, Ping, Resy
 use Rattle.stream_endpoint.specs.declared.count.Count.{Count}
 use Rattle.stream_endpoint.specs.Counts.{spelled_minus}
 use Rattle.stream_endpoint.specs.Sender.{hears_left}
-use Rattle.stream_endpoint.specs.Laws.{CommandMeans, SpelledIsHeard, StatusSpells}
-use Rattle.stream_endpoint.proofs.KeptEnds.{left-spelled}
+use Rattle.endpoint_laws.specs.Laws.{CommandMeans, SpelledIsHeard, StatusSpells}
+use Rattle.endpoint_laws.proofs.KeptEnds.{left-spelled}
 
 part40 : (a b : ℕ) → b ≤ a → (a + (2 ^ 40 - b % 2 ^ 40)) % 2 ^ 40 ≡ (a - b) % 2 ^ 40
 part40 a b le = omega arith

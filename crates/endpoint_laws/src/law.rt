@@ -1,5 +1,5 @@
 //! The laws of both ends; their statements stand in specs/Laws.antt.
-ghost use Rattle.stream_endpoint.specs.Laws.{KeptSends, KeptHears, KeptCommands, KeptNumbers, KeptOrders, KeptArrives, KeptTakes, KeptObeys, KeptReports, KeptArrival, KeptStatus, KeptFindsRoom, AnyCallsSend, AnyCallsReceive, StatusSpells, SpelledIsHeard, CommandMeans, RoomIsTested, CreditIsTested, StuckIsTested, OrderIsTested};
+ghost use Rattle.endpoint_laws.specs.Laws.{KeptSends, KeptHears, KeptCommands, KeptNumbers, KeptOrders, KeptArrives, KeptTakes, KeptObeys, KeptReports, KeptArrival, KeptStatus, KeptFindsRoom, AnyCallsSend, AnyCallsReceive, StatusSpells, SpelledIsHeard, CommandMeans, RoomIsTested, CreditIsTested, StuckIsTested, OrderIsTested};
 
 /// What is kept of a sending end goes on, and returns, as the whole end does.
 pub fn a_kept_sender_does_as_the_whole_one()

@@ -16,7 +16,7 @@ use Rattle.stream_endpoint.specs.InEnd.{code_by, info_by, kept_receiver}
 use Rattle.stream_endpoint.specs.OutEnd.{kept_sender}
 use Rattle.stream_endpoint.specs.Receiver.{Receiver, arrives_at, keeps}
 use Rattle.stream_endpoint.specs.Sender.{Sender, after_code, after_okay, after_gap, has_missed, hears_left, learns}
-use Rattle.stream_endpoint.specs.Laws.{KeptArrival, KeptArrives, KeptCommands, KeptFindsRoom, KeptHears, KeptNumbers, KeptObeys, KeptOrders, KeptReports, KeptSends, KeptStatus, KeptTakes}
+use Rattle.endpoint_laws.specs.Laws.{KeptArrival, KeptArrives, KeptCommands, KeptFindsRoom, KeptHears, KeptNumbers, KeptObeys, KeptOrders, KeptReports, KeptSends, KeptStatus, KeptTakes}
 
 twice40 : (n : ℕ) → n % 2 ^ 40 % 2 ^ 40 ≡ n % 2 ^ 40
 twice40 n = omega arith

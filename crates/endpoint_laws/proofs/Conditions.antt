@@ -1,6 +1,6 @@
 -- Each test is true exactly when its condition holds.
 use Rattle.std.proofs.Common.{rules}
-use Rattle.stream_endpoint.specs.Laws.{CreditIsTested, OrderIsTested, RoomIsTested, StuckIsTested}
+use Rattle.endpoint_laws.specs.Laws.{CreditIsTested, OrderIsTested, RoomIsTested, StuckIsTested}
 
 pub room_is_tested : RoomIsTested
 room_is_tested flow held wire = search rules

@@ -15,7 +15,7 @@ use Rattle.stream_endpoint.specs.InEnd.{Means, MeansBy, Receiving, code_by, kept
 use Rattle.stream_endpoint.specs.OutEnd.{Sending, command_of, kept as kept_out, kept_sender, told_by as told_in}
 use Rattle.stream_endpoint.specs.Epochs.{Told, ordered_by, told_by}
 use Rattle.stream_endpoint.specs.Orders.{IsStuckAt, MayOrder, is_stuck_at, may_order}
-use Rattle.stream_endpoint.specs.Calls.{AllMay, InCall, MayCallIn, MayCallOut, OutCall, after_calls, after_in, after_out, answer_in, answer_out, answers, kept_after_in, kept_after_out}
+use Rattle.endpoint_laws.specs.Calls.{AllMay, InCall, MayCallIn, MayCallOut, OutCall, after_calls, after_in, after_out, answer_in, answer_out, answers, kept_after_in, kept_after_out}
 
 -- ---- what is kept of a sender goes on, and tells, as the sender
 

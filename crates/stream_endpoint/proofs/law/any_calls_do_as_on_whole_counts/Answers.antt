@@ -1,6 +1,0 @@
--- The law, clause by clause.
-use Rattle.stream_endpoint.proofs.law.any_calls_do_as_on_whole_counts.Goals as goal
-use Rattle.stream_endpoint.proofs.Laws.{any_calls_receive, any_calls_send}
-
-pub returns : goal.returns
-returns c = record { sending = any_calls_send; receiving = any_calls_receive }

@@ -1,6 +1,0 @@
--- The law, clause by clause.
-use Rattle.stream_endpoint.proofs.law.tests_tell_their_conditions.Goals as goal
-use Rattle.stream_endpoint.proofs.Laws.{credit_is_tested, order_is_tested, room_is_tested, stuck_is_tested}
-
-pub returns : goal.returns
-returns c = record { room = room_is_tested; credit = credit_is_tested; stuck = stuck_is_tested; order = order_is_tested }
