@@ -1,7 +1,7 @@
 //! The laws of both ends of a stream: what is kept modulo does as the whole end does, what is spelled
 //! means what was meant, and each test tells its condition.
 //!
-//! Rule: docs/streams.md, "Whole counts and wrapped ones".
+//! Rule: docs/streams.md, "Counts".
 #![tactic(auto)]
 
 mod law;

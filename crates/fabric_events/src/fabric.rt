@@ -2,8 +2,8 @@ use fabric_flags::Flags;
 use fabric_lists::Queues;
 use fabric_nodes::{Site, Wires};
 use fabric_parts::{BlockPart, StreamPart};
+use net_faults::Faults;
 use net_machine::RunPlan;
-use stream_endpoint::Faults;
 
 /// The parts of a net, by their numbers.
 #[derive(Drop)]

@@ -5,7 +5,7 @@ use Rattle.chdr_packets.specs.declared.packet.Body.{Body}
 use Rattle.chdr_packets.specs.declared.packet.Body.TheVariants as body
 use Rattle.chdr_packets.specs.declared.packet.Packet.{Packet}
 use Rattle.net_nodes.specs.Perform.{last_hop}
-use Rattle.stream_endpoint.specs.declared.fault.Fault.{Fault}
+use Rattle.net_faults.specs.declared.fault.Fault.{Fault}
 use Rattle.net_machine.specs.Faults.{renamed}
 use Rattle.net_machine.specs.Moves.{asked_by}
 use Rattle.net_machine.specs.Nodes.{is_host_at, own_epid}

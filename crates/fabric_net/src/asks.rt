@@ -15,8 +15,8 @@ use crate::Net;
 use crate::renaming::rename;
 use chdr_packets::Packet;
 use fabric_lists::stream_reads;
+use net_faults::Faults;
 use rf_base::Memory;
-use stream_endpoint::Faults;
 
 impl Net {
     /// Takes the next packet of a Tx's list; up to 16 offered packets of a stream wait to be sent.

@@ -5,9 +5,9 @@ ghost use Rattle.fabric_events.specs.Fabrics.{IsSound, present_of};
 ghost use Rattle.fabric_net.specs.Asking.{marked_now};
 
 use fabric_events::Fabric;
+use net_faults::{Fault, Faults};
 use rf_base::{Items, Memory};
 use std::alloc::Global;
-use stream_endpoint::{Fault, Faults};
 
 /// Names requests and answers to lose, in place of those named before, and counts both from 0 again.
 pub(crate) fn rename(fabric: &mut Fabric, faults: &Faults) -> Result<(), Memory>

@@ -16,7 +16,7 @@ use Rattle.stream_endpoint.specs.Epochs.{ordered_by, told_by}
 use Rattle.stream_endpoint.specs.InEnd.{status_of}
 use Rattle.stream_endpoint.specs.OutEnd.{command_of}
 use Rattle.stream_endpoint.specs.Sender.{next_number}
-use Rattle.stream_endpoint.specs.declared.fault.Fault.TheVariants as fault
+use Rattle.net_faults.specs.declared.fault.Fault.TheVariants as fault
 use Rattle.stream_laws.proofs.Laws.{numbers_go_on}
 use Rattle.stream_laws.specs.Laws.{IsRun}
 use Rattle.stream_laws.specs.Machine.{Core, State as OneStream, number_at}

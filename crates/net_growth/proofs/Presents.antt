@@ -14,7 +14,7 @@ use Rattle.net_topology.specs.Links.{end_of, link_at}
 use Rattle.stream_endpoint.specs.InEnd.{status_of}
 use Rattle.stream_endpoint.specs.OutEnd.{command_of}
 use Rattle.stream_endpoint.specs.Sender.{next_number}
-use Rattle.stream_endpoint.specs.declared.fault.Fault.TheVariants as fault
+use Rattle.net_faults.specs.declared.fault.Fault.TheVariants as fault
 use Rattle.net_machine.specs.declared.event.Event.{Event}
 use Rattle.net_machine.specs.declared.event.Event.TheVariants.{Ask, Command, Enter, Feed, Hop, Lose, Reply, Report, Seen}
 use Rattle.net_machine.specs.declared.plan.RunPlan.{RunPlan}

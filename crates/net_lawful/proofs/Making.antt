@@ -10,7 +10,7 @@ use Rattle.block_library.specs.Memory.{lists}
 use Rattle.block_library.specs.declared.kind.BlockKind.{BlockKind}
 use Rattle.block_library.specs.declared.kind.BlockKind.TheVariants.{Tx, Rx, Fifo, Split, Keep, Repeat, Replay, Switch, Sink}
 use Rattle.chdr_packets.specs.declared.packet.Packet.{Packet}
-use Rattle.stream_endpoint.specs.declared.fault.Fault.TheVariants as fault
+use Rattle.net_faults.specs.declared.fault.Fault.TheVariants as fault
 use Rattle.stream_endpoint.specs.Sender.{next_number}
 use Rattle.stream_laws.specs.Machine.{Core, number_at}
 use Rattle.stream_laws.proofs.Laws.{numbers_go_on, taken_of_given}

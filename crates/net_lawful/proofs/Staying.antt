@@ -16,7 +16,7 @@ use Rattle.net_topology.specs.Tree.{FitsNode, epid_of}
 use Rattle.net_topology.specs.declared.plan.NodePlan.{NodePlan}
 use Rattle.net_topology.specs.declared.plan.NodePlan.TheVariants.{Crossbar, Adapter, Host, Endpoint}
 use Rattle.net_topology.specs.declared.plan.Plan.{Plan}
-use Rattle.stream_endpoint.specs.declared.fault.Fault.{Fault}
+use Rattle.net_faults.specs.declared.fault.Fault.{Fault}
 use Rattle.net_machine.specs.declared.event.Event.{Event}
 use Rattle.net_machine.specs.declared.event.Event.TheVariants.{Enter, Hop, Seen, Feed, Report, Command, Lose, Reply, Ask}
 use Rattle.net_machine.specs.Conditions.{enabled}

@@ -26,7 +26,7 @@ use Rattle.net_topology.specs.Leads.{sent_on}
 use Rattle.net_topology.specs.Links.{end_of, end_port, link_at}
 use Rattle.net_topology.specs.declared.plan.Plan.{Plan}
 use Rattle.net_topology.proofs.Laws.{links_leave_by_ports}
-use Rattle.stream_endpoint.specs.declared.fault.Fault.TheVariants as fault
+use Rattle.net_faults.specs.declared.fault.Fault.TheVariants as fault
 use Rattle.net_machine.specs.Nodes.{exits_of, is_host_at, is_switch, route_from, site_at}
 use Rattle.net_machine.specs.Passing.{Arrives, Ends, Outcome, Passes, Passing, Returns, by_table, goes_on, leaves_by, passing, passing_by, walked_by, walking, walks, with_table}
 use Rattle.net_machine.specs.Faults.{is_named}

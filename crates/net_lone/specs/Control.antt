@@ -4,7 +4,7 @@ use Rattle.chdr_packets.specs.declared.packet.Body.TheVariants as body
 use Rattle.chdr_packets.specs.declared.packet.Packet.{Packet}
 use Rattle.chdr_words.specs.declared.control.Control.{Control}
 use Rattle.net_topology.specs.Tree.{node_with}
-use Rattle.stream_endpoint.specs.declared.fault.Fault.TheVariants as fault
+use Rattle.net_faults.specs.declared.fault.Fault.TheVariants as fault
 use Rattle.net_machine.specs.declared.event.Event.{Event}
 use Rattle.net_machine.specs.Faults.{is_named}
 use Rattle.net_machine.specs.Nodes.{is_host_at, own_epid}

@@ -8,7 +8,7 @@ use Rattle.chdr_packets.specs.declared.packet.Body.TheVariants as body
 use Rattle.chdr_packets.specs.declared.packet.Packet.{Packet}
 use Rattle.chdr_words.specs.declared.control.Control.{Control}
 use Rattle.net_topology.specs.Links.{end_of, link_at}
-use Rattle.stream_endpoint.specs.declared.fault.Fault.TheVariants as fault
+use Rattle.net_faults.specs.declared.fault.Fault.TheVariants as fault
 use Rattle.net_machine.specs.Faults.{is_named}
 use Rattle.net_machine.specs.Nodes.{is_host_at, own_epid, place_at, route_from, slot_at}
 use Rattle.net_machine.specs.Passing.{Outcome, Passes, Passing, Returns, Arrives, Ends, message, passing}

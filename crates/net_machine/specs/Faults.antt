@@ -1,8 +1,8 @@
 -- Which packets a list of faults names.
 use Rattle.std.specs.Prelude.{ℕ, ◌==◌, ◌&&◌, ◌++◌, not, Bool, true, false, List, filter}
 use Rattle.std.specs.List.{list_any}
-use Rattle.stream_endpoint.specs.declared.fault.Fault.{Fault}
-use Rattle.stream_endpoint.specs.declared.fault.Fault.TheVariants.{Samples, Status, Command, Request, Answer}
+use Rattle.net_faults.specs.declared.fault.Fault.{Fault}
+use Rattle.net_faults.specs.declared.fault.Fault.TheVariants.{Samples, Status, Command, Request, Answer}
 
 -- a fault names packet k of the samples of stream s
 abbrev pub names_samples : ℕ → ℕ → Fault → Bool

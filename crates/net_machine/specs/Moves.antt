@@ -9,7 +9,7 @@ use Rattle.chdr_packets.specs.declared.packet.Packet.{Packet}
 use Rattle.chdr_words.specs.declared.management.Management.{Management}
 use Rattle.net_nodes.specs.Operations.{asked_in}
 use Rattle.net_nodes.specs.Perform.{last_hop}
-use Rattle.stream_endpoint.specs.declared.fault.Fault.{Fault}
+use Rattle.net_faults.specs.declared.fault.Fault.{Fault}
 use Rattle.net_machine.specs.declared.event.Event.{Event}
 use Rattle.net_machine.specs.Conditions.{enabled}
 use Rattle.net_machine.specs.Effects.{after, on_node}

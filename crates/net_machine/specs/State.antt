@@ -5,7 +5,7 @@ use Rattle.chdr_packets.specs.declared.packet.Packet.{Packet}
 use Rattle.net_nodes.specs.declared.table.Place.{Place}
 use Rattle.net_topology.specs.declared.plan.Plan.{Plan}
 use Rattle.stream_endpoint.specs.declared.count.Count.{Count}
-use Rattle.stream_endpoint.specs.declared.fault.Fault.{Fault}
+use Rattle.net_faults.specs.declared.fault.Fault.{Fault}
 use Rattle.stream_endpoint.specs.declared.state.Notice.TheVariants.{Since}
 use Rattle.stream_endpoint.specs.declared.state.OutState.TheVariants.{Halted}
 use Rattle.stream_endpoint.specs.Counts.{none}

@@ -1,7 +1,8 @@
 use block_library::BlockKind;
 use chdr_words::{Epid, EpidList};
+use net_faults::Faults;
 use rf_base::{Copyable, Items, Memory};
-use stream_endpoint::{Faults, Flow, Policy};
+use stream_endpoint::{Flow, Policy};
 
 /// A stream of a run.
 #[derive(Clone, Copy, Debug, PartialEq, Eq)]

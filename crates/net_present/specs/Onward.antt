@@ -22,7 +22,7 @@ use Rattle.net_topology.specs.declared.plan.NodePlan.TheVariants.{Crossbar, Adap
 use Rattle.stream_endpoint.specs.InEnd.{status_of}
 use Rattle.stream_endpoint.specs.OutEnd.{command_of}
 use Rattle.stream_endpoint.specs.Sender.{next_number}
-use Rattle.stream_endpoint.specs.declared.fault.Fault.TheVariants as fault
+use Rattle.net_faults.specs.declared.fault.Fault.TheVariants as fault
 use Rattle.net_machine.specs.declared.event.Event.{Event}
 use Rattle.net_machine.specs.declared.event.Event.TheVariants as event
 use Rattle.net_machine.specs.declared.plan.BlockPlan.{BlockPlan}

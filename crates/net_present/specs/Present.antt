@@ -7,7 +7,7 @@ use Rattle.net_topology.specs.declared.plan.Plan.{Plan}
 use Rattle.stream_endpoint.specs.Receiver.{Receiver, is_due}
 use Rattle.stream_endpoint.specs.Sender.{Sender}
 use Rattle.stream_endpoint.specs.declared.count.Count.{Count}
-use Rattle.stream_endpoint.specs.declared.fault.Fault.{Fault}
+use Rattle.net_faults.specs.declared.fault.Fault.{Fault}
 use Rattle.net_machine.specs.declared.plan.RunPlan.{RunPlan}
 use Rattle.net_machine.specs.Front.{Front, Queued, StreamFront}
 use Rattle.net_machine.specs.State.{Node}

@@ -5,7 +5,7 @@ use Rattle.rf_base.proofs.Places.{one-set}
 use Rattle.chdr_packets.specs.declared.packet.Packet.{Packet}
 use Rattle.stream_endpoint.specs.Counts.{none}
 use Rattle.stream_endpoint.specs.declared.count.Count.{Count}
-use Rattle.stream_endpoint.specs.declared.fault.Fault.TheVariants as fault
+use Rattle.net_faults.specs.declared.fault.Fault.TheVariants as fault
 use Rattle.net_machine.specs.declared.event.Event.{Event}
 use Rattle.net_machine.specs.declared.event.Event.TheVariants.{Enter, Hop, Seen, Feed, Report, Command, Lose, Reply, Ask}
 use Rattle.net_machine.specs.declared.plan.RunPlan.{RunPlan}

@@ -17,8 +17,8 @@ use Rattle.chdr_words.specs.declared.operation.Operation.TheVariants as operatio
 use Rattle.net_nodes.specs.Table.{exit_of}
 use Rattle.net_topology.specs.declared.plan.NodePlan.TheVariants.{Crossbar, Endpoint, Host}
 use Rattle.net_topology.specs.declared.plan.Plan.{Plan}
-use Rattle.stream_endpoint.specs.declared.fault.Fault.{Fault}
-use Rattle.stream_endpoint.specs.declared.fault.Fault.TheVariants.{Answer, Request}
+use Rattle.net_faults.specs.declared.fault.Fault.{Fault}
+use Rattle.net_faults.specs.declared.fault.Fault.TheVariants.{Answer, Request}
 use Rattle.net_machine.specs.Begin.{built}
 use Rattle.net_machine.specs.Moves.{answered, asks, marked}
 use Rattle.net_machine.specs.Passing.{message}

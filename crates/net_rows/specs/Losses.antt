@@ -1,7 +1,7 @@
 -- Six packets of which something is lost.
 use Rattle.std.specs.Prelude.{◌≡◌, ℕ, ◌-◌, ◌^◌, [], ◌∷◌}
-use Rattle.stream_endpoint.specs.declared.fault.Fault.{Fault}
-use Rattle.stream_endpoint.specs.declared.fault.Fault.TheVariants as fault
+use Rattle.net_faults.specs.declared.fault.Fault.{Fault}
+use Rattle.net_faults.specs.declared.fault.Fault.TheVariants as fault
 use Rattle.stream_endpoint.specs.declared.flow.Policy.{Policy}
 use Rattle.stream_endpoint.specs.declared.flow.Policy.TheVariants.{Auto, Off}
 use Rattle.net_machine.specs.declared.tally.StreamEnd.TheVariants.{Drained, Broken, Undrained}

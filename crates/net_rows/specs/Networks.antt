@@ -6,7 +6,7 @@ use Rattle.block_library.specs.declared.kind.BlockKind.TheVariants.{Tx, Rx}
 use Rattle.chdr_words.specs.declared.epid.Epid.{Epid}
 use Rattle.net_topology.specs.declared.plan.NodePlan.TheVariants.{Crossbar, Host}
 use Rattle.net_topology.specs.declared.plan.Plan.{Plan}
-use Rattle.stream_endpoint.specs.declared.fault.Fault.{Fault}
+use Rattle.net_faults.specs.declared.fault.Fault.{Fault}
 use Rattle.stream_endpoint.specs.declared.flow.Flow.{Flow}
 use Rattle.stream_endpoint.specs.declared.flow.Policy.{Policy}
 use Rattle.net_machine.specs.declared.plan.BlockPlan.{BlockPlan}

@@ -19,7 +19,7 @@ use Rattle.stream_endpoint.specs.OutEnd.{command_of}
 use Rattle.stream_endpoint.specs.Counts.{is_none}
 use Rattle.stream_endpoint.specs.Receiver.{is_due}
 use Rattle.stream_endpoint.specs.Sender.{is_running}
-use Rattle.stream_endpoint.specs.declared.fault.Fault.TheVariants as fault
+use Rattle.net_faults.specs.declared.fault.Fault.TheVariants as fault
 use Rattle.stream_endpoint.specs.declared.flow.Flow.{Flow}
 use Rattle.stream_endpoint.specs.declared.state.OutState.{OutState}
 use Rattle.stream_endpoint.specs.declared.state.OutState.TheVariants.{Opening, Running, Halted, Resyncing}

@@ -12,7 +12,7 @@ use Rattle.stream_endpoint.specs.Epochs.{Told, told_by}
 use Rattle.stream_endpoint.specs.InEnd.{status_of}
 use Rattle.stream_endpoint.specs.Receiver.{is_due}
 use Rattle.stream_endpoint.specs.Sender.{may_send}
-use Rattle.stream_endpoint.specs.declared.fault.Fault.TheVariants as fault
+use Rattle.net_faults.specs.declared.fault.Fault.TheVariants as fault
 use Rattle.endpoint_laws.proofs.Laws.{credit_is_tested}
 use Rattle.stream_laws.specs.Acts.{after as act_after, Enter as Sends, Report as Reports}
 use Rattle.stream_laws.specs.Effects.{enters_core, reports_core}

@@ -20,7 +20,7 @@ use Rattle.net_topology.specs.Links.{end_of, link_at}
 use Rattle.stream_endpoint.specs.Epochs.{ordered_by, told_by}
 use Rattle.stream_endpoint.specs.InEnd.{status_of}
 use Rattle.stream_endpoint.specs.OutEnd.{command_of}
-use Rattle.stream_endpoint.specs.declared.fault.Fault.TheVariants as fault
+use Rattle.net_faults.specs.declared.fault.Fault.TheVariants as fault
 use Rattle.net_machine.specs.declared.event.Event.TheVariants.{Enter, Hop, Seen, Feed, Report, Command, Lose, Reply, Ask}
 use Rattle.net_machine.specs.declared.plan.RunPlan.{RunPlan}
 use Rattle.net_machine.specs.Conditions.{can_order, enabled, has_place_from, may}

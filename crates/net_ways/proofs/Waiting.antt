@@ -17,7 +17,7 @@ use Rattle.net_nodes.specs.declared.table.Place.{Place}
 use Rattle.net_topology.specs.Leads.{sent_on}
 use Rattle.net_topology.specs.Links.{end_of, link_at}
 use Rattle.net_topology.specs.declared.plan.Plan.{Plan}
-use Rattle.stream_endpoint.specs.declared.fault.Fault.TheVariants as fault
+use Rattle.net_faults.specs.declared.fault.Fault.TheVariants as fault
 use Rattle.net_machine.specs.declared.event.Event.{Event}
 use Rattle.net_machine.specs.declared.event.Event.TheVariants.{Enter, Hop, Seen, Feed, Report, Command, Lose, Reply, Ask}
 use Rattle.net_machine.specs.declared.plan.BlockPlan.{BlockPlan}

@@ -2,7 +2,7 @@
 use Rattle.std.proofs.Common.{◌≡◌, ℕ, ◌+◌, ◌≤◌, ◌<◌, Bool, true, false, length, Option, Some, None, refl, arith, get_or-set_same, get_or-set_other, if◌then◌else◌}
 use Rattle.rf_base.proofs.Places.{one-set}
 use Rattle.chdr_packets.specs.declared.packet.Packet.{Packet}
-use Rattle.stream_endpoint.specs.declared.fault.Fault.{Fault}
+use Rattle.net_faults.specs.declared.fault.Fault.{Fault}
 use Rattle.net_machine.specs.Effects.{enters_over, joins, on_node, on_stream}
 use Rattle.net_machine.specs.Faults.{is_named}
 use Rattle.net_machine.specs.Queues.{queue_of}

@@ -17,9 +17,9 @@ use Rattle.stream_endpoint.specs.Epochs.{ordered_by, told_by}
 use Rattle.stream_endpoint.specs.InEnd.{status_of}
 use Rattle.stream_endpoint.specs.OutEnd.{command_of}
 use Rattle.stream_endpoint.specs.Receiver.{is_due}
-use Rattle.stream_endpoint.specs.declared.fault.Fault.{Fault}
+use Rattle.net_faults.specs.declared.fault.Fault.{Fault}
 use Rattle.stream_laws.specs.Machine.{Entry as Flight}
-use Rattle.stream_endpoint.specs.declared.fault.Fault.TheVariants as fault
+use Rattle.net_faults.specs.declared.fault.Fault.TheVariants as fault
 use Rattle.net_machine.specs.declared.event.Event.{Event}
 use Rattle.net_machine.specs.declared.event.Event.TheVariants as event
 use Rattle.net_machine.specs.Conditions.{can_order, enabled, has_place_from, may}

@@ -3,8 +3,8 @@
 use Rattle.std.specs.Prelude.{ℕ, ◌+◌, ◌-◌, ◌*◌, nat_le, Bool, false, List, [], length}
 use Rattle.std.specs.List.{count_by, flat_map}
 use Rattle.chdr_packets.specs.declared.packet.Packet.{Packet}
-use Rattle.stream_endpoint.specs.declared.fault.Fault.{Fault}
-use Rattle.stream_endpoint.specs.declared.fault.Fault.TheVariants.{Samples, Status, Command, Request, Answer}
+use Rattle.net_faults.specs.declared.fault.Fault.{Fault}
+use Rattle.net_faults.specs.declared.fault.Fault.TheVariants.{Samples, Status, Command, Request, Answer}
 use Rattle.stream_endpoint.specs.Counts.{minus, plus}
 use Rattle.stream_laws.specs.Chains.{flying}
 use Rattle.stream_laws.specs.Machine.{State as OneStream}

@@ -1,9 +1,10 @@
 use block_library::BlockKind;
 use chdr_words::{CmdOp, Epid};
+use net_faults::Fault;
 use net_machine::{BlockPlan, Event, RunPlan, Seed, StreamEnd, StreamPlan, Tally};
 use rf_base::{Copyable, Items};
 use std::test::Fail;
-use stream_endpoint::{Fault, Flow, Policy};
+use stream_endpoint::{Flow, Policy};
 
 fn a_stream() -> StreamPlan {
     StreamPlan {

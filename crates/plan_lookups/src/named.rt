@@ -1,9 +1,9 @@
 //! Which packets a list of faults names; places count beyond what a fault can name.
 ghost use Rattle.std.specs.Prelude.{◌≡◌};
 ghost use Rattle.net_machine.specs.Faults.{is_named, names_answer, names_command, names_request, names_samples, names_status};
-ghost use Rattle.stream_endpoint.specs.declared.fault.Fault.TheVariants.{Answer, Command, Request, Samples, Status};
+ghost use Rattle.net_faults.specs.declared.fault.Fault.TheVariants.{Answer, Command, Request, Samples, Status};
 
-use stream_endpoint::{Fault, Faults};
+use net_faults::{Fault, Faults};
 
 /// Whether packet `k` of the samples of stream `s` is to be lost.
 pub fn is_named_samples(faults: &Faults, s: usize, k: u64) -> bool

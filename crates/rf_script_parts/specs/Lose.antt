@@ -7,8 +7,8 @@ use Rattle.rf_script_types.specs.declared.words.Sort.{Sort}
 use Rattle.rf_script_types.specs.declared.words.Sort.TheVariants as sort
 use Rattle.rf_script_types.specs.Limits.{lose_limit}
 use Rattle.rf_script_types.specs.Words.{sort_of}
-use Rattle.stream_endpoint.specs.declared.fault.Fault.{Fault}
-use Rattle.stream_endpoint.specs.declared.fault.Fault.TheVariants.{Samples, Status, Command, Request, Answer}
+use Rattle.net_faults.specs.declared.fault.Fault.{Fault}
+use Rattle.net_faults.specs.declared.fault.Fault.TheVariants.{Samples, Status, Command, Request, Answer}
 use Rattle.rf_script_parts.specs.declared.wrong.Wrong.{Wrong}
 use Rattle.rf_script_parts.specs.declared.lose.Losses.{Losses}
 use Rattle.rf_script_parts.specs.declared.lose.Sorts.{Sorts}

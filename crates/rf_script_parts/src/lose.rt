@@ -7,11 +7,11 @@ ghost use Rattle.serde_json.specs.View.{view, items_view};
 use crate::entries::{Entries, read_entries};
 use crate::value::{bad, element, find, listed, ranged, sized};
 use crate::wrong::Wrong;
+use net_faults::{Fault, Faults};
 use rf_base::Items;
 use rf_script_types::{Field, LOSE_PLACE, LOSE_STREAM, Sort, Why, lose_limit};
 use serde_json::Value;
 use std::alloc::Global;
-use stream_endpoint::{Fault, Faults};
 
 /// Which sorts of packets a command's list may name.
 #[derive(Clone, Copy, Debug)]

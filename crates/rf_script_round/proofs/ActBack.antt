@@ -4,7 +4,7 @@ use Rattle.std.proofs.lemmas.Bool.Decides.{nat_tests}
 use Rattle.std.specs.Prelude.{Ok, nat_lt}
 use Rattle.chdr_words.specs.declared.control.Control.{Control}
 use Rattle.chdr_words.specs.declared.epid.Epid.{Epid}
-use Rattle.stream_endpoint.specs.declared.fault.Fault.{Fault}
+use Rattle.net_faults.specs.declared.fault.Fault.{Fault}
 use Rattle.rf_script_types.specs.declared.act.Act.{Act}
 use Rattle.rf_script_types.specs.declared.act.Act.TheVariants as act_is
 use Rattle.rf_script_types.specs.declared.act.Due.{Due}

@@ -15,7 +15,7 @@ use Rattle.graph_core.specs.declared.place.Side.{Side}
 use Rattle.graph_core.specs.declared.place.Side.TheVariants.{Into, Out}
 use Rattle.net_topology.specs.declared.plan.LinkPlan.{LinkPlan}
 use Rattle.net_topology.specs.declared.plan.NodePlan.{NodePlan}
-use Rattle.stream_endpoint.specs.declared.fault.Fault.{Fault}
+use Rattle.net_faults.specs.declared.fault.Fault.{Fault}
 use Rattle.stream_endpoint.specs.declared.flow.Flow.{Flow}
 use Rattle.stream_endpoint.specs.declared.flow.Policy.{Policy}
 use Rattle.stream_endpoint.specs.declared.flow.Policy.TheVariants.{Auto, Off}

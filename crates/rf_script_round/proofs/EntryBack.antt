@@ -5,8 +5,8 @@ use Rattle.chdr_words.specs.declared.epid.Epid.{Epid}
 use Rattle.net_topology.specs.declared.plan.LinkPlan.{LinkPlan}
 use Rattle.net_topology.specs.declared.plan.NodePlan.{NodePlan}
 use Rattle.net_topology.specs.declared.plan.NodePlan.TheVariants.{Crossbar, Adapter, Host, Endpoint}
-use Rattle.stream_endpoint.specs.declared.fault.Fault.{Fault}
-use Rattle.stream_endpoint.specs.declared.fault.Fault.TheVariants.{Samples, Status, Command, Request, Answer}
+use Rattle.net_faults.specs.declared.fault.Fault.{Fault}
+use Rattle.net_faults.specs.declared.fault.Fault.TheVariants.{Samples, Status, Command, Request, Answer}
 use Rattle.rf_script_types.specs.declared.table.TheConstants.{PORTS, NODE_EPID, BANK, LINK_NODE, LINK_PORT, LOSE_STREAM, LOSE_PLACE}
 use Rattle.rf_script_types.specs.Fits.{IsIn, FitsNode, FitsLink, FitsStreamFault, FitsPlainFault, FitsAnyFault}
 use Rattle.rf_script_types.specs.Text.{link_text, node_text, fault_text}

@@ -4,7 +4,7 @@ use Rattle.std.proofs.lemmas.Bool.Decides.{nat_tests}
 use Rattle.std.specs.Prelude.{Ok, nat_lt, nat_le}
 use Rattle.net_topology.specs.declared.plan.LinkPlan.{LinkPlan}
 use Rattle.net_topology.specs.declared.plan.NodePlan.{NodePlan}
-use Rattle.stream_endpoint.specs.declared.fault.Fault.{Fault}
+use Rattle.net_faults.specs.declared.fault.Fault.{Fault}
 use Rattle.rf_script_types.specs.declared.field.Field.{Field}
 use Rattle.rf_script_types.specs.declared.field.Field.TheVariants as field
 use Rattle.rf_script_types.specs.declared.table.Number.{Number}

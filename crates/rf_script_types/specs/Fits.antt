@@ -14,8 +14,8 @@ use Rattle.graph_core.specs.Ports.{port_count}
 use Rattle.net_topology.specs.declared.plan.NodePlan.{NodePlan}
 use Rattle.net_topology.specs.declared.plan.NodePlan.TheVariants as node
 use Rattle.net_topology.specs.declared.plan.LinkPlan.{LinkPlan}
-use Rattle.stream_endpoint.specs.declared.fault.Fault.{Fault}
-use Rattle.stream_endpoint.specs.declared.fault.Fault.TheVariants as fault
+use Rattle.net_faults.specs.declared.fault.Fault.{Fault}
+use Rattle.net_faults.specs.declared.fault.Fault.TheVariants as fault
 use Rattle.stream_endpoint.specs.Flow.{IsValid}
 use Rattle.rf_script_types.specs.declared.act.Act.{Act}
 use Rattle.rf_script_types.specs.declared.act.Act.TheVariants as act

@@ -6,8 +6,8 @@ use Rattle.chdr_words.specs.declared.control.Control.{Control}
 use Rattle.net_topology.specs.declared.plan.NodePlan.{NodePlan}
 use Rattle.net_topology.specs.declared.plan.NodePlan.TheVariants.{Crossbar, Adapter, Host, Endpoint}
 use Rattle.net_topology.specs.declared.plan.LinkPlan.{LinkPlan}
-use Rattle.stream_endpoint.specs.declared.fault.Fault.{Fault}
-use Rattle.stream_endpoint.specs.declared.fault.Fault.TheVariants as fault
+use Rattle.net_faults.specs.declared.fault.Fault.{Fault}
+use Rattle.net_faults.specs.declared.fault.Fault.TheVariants as fault
 use Rattle.rf_script_types.specs.declared.act.Act.{Act}
 use Rattle.rf_script_types.specs.declared.act.Act.TheVariants as act
 use Rattle.rf_script_types.specs.declared.act.Due.{Due}

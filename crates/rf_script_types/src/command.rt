@@ -2,9 +2,10 @@ use crate::Acts;
 use block_library::BlockKind;
 use chdr_words::{CtrlOp, Epid, EpidList, Words15};
 use graph_core::{PortAt, PropAt};
+use net_faults::Faults;
 use net_topology::{LinkList, NodeList};
 use rf_base::Items;
-use stream_endpoint::{Faults, Flow, Policy};
+use stream_endpoint::{Flow, Policy};
 
 /// A script: what is done, command by command.
 ///

@@ -9,6 +9,7 @@ use crate::object::Object;
 use block_library::BlockKind;
 use chdr_words::{CtrlOp, Epid, EpidList, Words15};
 use graph_core::{PortAt, PropAt};
+use net_faults::Faults;
 use net_topology::{LinkList, NodeList};
 use rf_base::Memory;
 use rf_script_types::{
@@ -16,7 +17,7 @@ use rf_script_types::{
 };
 use serde_json::Value;
 use std::alloc::Global;
-use stream_endpoint::{Faults, Flow, Policy};
+use stream_endpoint::{Flow, Policy};
 
 /// A command with its field `do`.
 fn begin(alloc: Global, verb: Verb) -> Result<Object, Memory>

@@ -6,12 +6,12 @@ ghost use Rattle.serde_json.specs.View.{view};
 use crate::list::{Written, list_value, pair_value};
 use crate::object::Object;
 use chdr_words::{Control, Epid};
+use net_faults::Fault;
 use net_topology::{LinkPlan, NodePlan};
 use rf_base::Memory;
 use rf_script_types::{Act, ActWord, Due, Field, NodeWord, Sort, op_name};
 use serde_json::Value;
 use std::alloc::Global;
-use stream_endpoint::Fault;
 
 impl Written for Epid {
     ghost use Rattle.rf_script_types.specs.Text.{end_text};

@@ -10,7 +10,7 @@ use Rattle.net_topology.specs.Links.{end_of, end_port, link_at, start_port}
 use Rattle.net_topology.specs.Parts.{way_of}
 use Rattle.net_topology.specs.Tree.{FitsPlan, port_count}
 use Rattle.net_topology.specs.declared.plan.Plan.{Plan}
-use Rattle.stream_endpoint.specs.declared.fault.Fault.TheVariants as fault
+use Rattle.net_faults.specs.declared.fault.Fault.TheVariants as fault
 use Rattle.net_machine.specs.declared.event.Event.{Event}
 use Rattle.net_machine.specs.Faults.{is_named}
 use Rattle.net_machine.specs.Nodes.{is_host_at, own_epid}

@@ -7,7 +7,7 @@ use Rattle.chdr_words.specs.declared.epid.Epid.{Epid}
 use Rattle.net_topology.specs.Links.{end_of}
 use Rattle.net_topology.specs.Parts.{way_of}
 use Rattle.net_topology.specs.declared.plan.Plan.{Plan}
-use Rattle.stream_endpoint.specs.declared.fault.Fault.TheVariants as fault
+use Rattle.net_faults.specs.declared.fault.Fault.TheVariants as fault
 use Rattle.net_machine.specs.declared.event.Event.{Event}
 use Rattle.net_machine.specs.Faults.{is_named}
 use Rattle.net_machine.specs.Moves.{after_journal, answered, asks}

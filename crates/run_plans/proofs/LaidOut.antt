@@ -25,7 +25,7 @@ use Rattle.net_machine.specs.declared.plan.BlockPlan.{BlockPlan}
 use Rattle.net_machine.specs.declared.plan.RunPlan.{RunPlan}
 use Rattle.net_machine.specs.declared.plan.StreamPlan.{StreamPlan}
 use Rattle.net_topology.specs.declared.plan.Plan.{Plan}
-use Rattle.stream_endpoint.specs.declared.fault.Fault.{Fault}
+use Rattle.net_faults.specs.declared.fault.Fault.{Fault}
 use Rattle.run_plans.specs.Layouts.{IsLayout, StandIn, edge_at, in_at, no_edge, no_placed, out_at, placed_at}
 use Rattle.run_plans.specs.Planned.{first_side, plan_of, planned_at}
 use Rattle.run_plans.specs.RunRefusals.{IsLaidOut}

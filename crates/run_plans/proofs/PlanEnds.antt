@@ -15,7 +15,7 @@ use Rattle.graph_core.specs.declared.place.Side.{Side}
 use Rattle.net_machine.specs.CanBegin.{input_at, output_at}
 use Rattle.net_machine.specs.Plans.{block_at, no_block}
 use Rattle.net_machine.specs.declared.plan.BlockPlan.{BlockPlan}
-use Rattle.stream_endpoint.specs.declared.fault.Fault.{Fault}
+use Rattle.net_faults.specs.declared.fault.Fault.{Fault}
 use Rattle.run_plans.specs.Layouts.{IsLayout, in_at, no_placed, out_at, placed_at}
 use Rattle.run_plans.specs.Planned.{plan_of, planned_at, planned_block}
 use Rattle.run_plans.specs.declared.layout.Layout.{Layout}

@@ -24,7 +24,7 @@ use Rattle.net_machine.specs.declared.plan.BlockPlan.{BlockPlan}
 use Rattle.net_machine.specs.declared.plan.RunPlan.{RunPlan}
 use Rattle.net_machine.specs.declared.plan.StreamPlan.{StreamPlan}
 use Rattle.net_topology.specs.declared.plan.Plan.{Plan}
-use Rattle.stream_endpoint.specs.declared.fault.Fault.{Fault}
+use Rattle.net_faults.specs.declared.fault.Fault.{Fault}
 use Rattle.run_plans.specs.Changes.{stream_between, with_block, with_stream}
 use Rattle.run_plans.specs.Laws.{RefusedBlocksDoNot, RefusedPlansDoNot, RefusedStreamsDoNot}
 use Rattle.run_plans.specs.Layouts.{IsLayout, StandsAtNode, edge_at, in_at, laid_at, no_edge, no_placed, out_at, placed_at}

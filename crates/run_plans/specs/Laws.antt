@@ -8,7 +8,7 @@ use Rattle.net_machine.specs.CanBegin.{CanBegin}
 use Rattle.net_machine.specs.State.{Node}
 use Rattle.net_machine.specs.declared.plan.RunPlan.{RunPlan}
 use Rattle.net_topology.specs.declared.plan.Plan.{Plan}
-use Rattle.stream_endpoint.specs.declared.fault.Fault.{Fault}
+use Rattle.net_faults.specs.declared.fault.Fault.{Fault}
 use Rattle.run_plans.specs.Changes.{with_block, with_stream}
 use Rattle.run_plans.specs.Layouts.{IsLayout, StandIn}
 use Rattle.run_plans.specs.Planned.{plan_of}

@@ -11,7 +11,7 @@ use Rattle.graph_core.specs.declared.place.Side.{Side}
 use Rattle.graph_core.specs.declared.place.Side.TheVariants.{Into, Out}
 use Rattle.net_machine.specs.declared.plan.BlockPlan.{BlockPlan}
 use Rattle.net_machine.specs.declared.plan.RunPlan.{RunPlan}
-use Rattle.stream_endpoint.specs.declared.fault.Fault.{Fault}
+use Rattle.net_faults.specs.declared.fault.Fault.{Fault}
 use Rattle.run_plans.specs.Layouts.{placed_at}
 use Rattle.run_plans.specs.declared.layout.Layout.{Layout}
 use Rattle.run_plans.specs.declared.layout.PlacedBlock.{PlacedBlock}

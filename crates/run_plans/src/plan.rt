@@ -9,10 +9,10 @@ ghost use Rattle.run_plans.specs.RunRefusals.{IsLaidOut};
 use crate::{Layout, PlacedBlock};
 use block_library::BlockKind;
 use graph_core::{Graph, Prop, PropAt, Side};
+use net_faults::Faults;
 use net_machine::{BlockPlan, BlockPlans, RunPlan};
 use rf_base::{Copyable, Items, Memory};
 use std::alloc::Global;
-use stream_endpoint::Faults;
 
 impl Layout {
     /// The plan of a run that loses these packets.

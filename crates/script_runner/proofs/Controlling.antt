@@ -41,7 +41,7 @@ use Rattle.script_books.specs.declared.book.Book.{Book}
 use Rattle.script_books.specs.declared.book.Book.TheVariants as book
 use Rattle.script_books.specs.declared.refusal.Refusal.{Refusal}
 use Rattle.script_books.specs.declared.refusal.Refusal.TheVariants as refusal
-use Rattle.stream_endpoint.specs.declared.fault.Fault.{Fault}
+use Rattle.net_faults.specs.declared.fault.Fault.{Fault}
 use Rattle.script_worlds.specs.WorldView.{WorldSeen}
 use Rattle.script_runner.specs.Controls.{IsControlAsked, IsControlCause, IsControlled, IsFirstRequest, IsRouteCause, control_of, control_past, was_asked}
 use Rattle.script_runner.specs.ScriptWorlds.{ScriptWorld}

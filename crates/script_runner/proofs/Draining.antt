@@ -23,7 +23,7 @@ use Rattle.script_books.specs.declared.refusal.Refusal.{Refusal}
 use Rattle.script_worlds.specs.Books.{IsBook}
 use Rattle.script_worlds.specs.Causes.{IsBlockCause, IsCommitCause, IsConnectCause, IsNetCause, IsSetCause, IsUnloadCause}
 use Rattle.script_worlds.specs.Worlds.{IsAfterCommit, IsNext, Setup, block_of, plan_of, unless_refused}
-use Rattle.stream_endpoint.specs.declared.fault.Fault.{Fault}
+use Rattle.net_faults.specs.declared.fault.Fault.{Fault}
 use Rattle.stream_pump.proofs.Laws.{books_lose_only_what_is_named, books_without_losses_are_plain, chosen_books_are_books, resynchronising_books_drain}
 use Rattle.walk_books.specs.declared.found.FoundNode.{FoundNode}
 use Rattle.script_runner.specs.Controls.{IsControlBook, IsControlled, control_of}

@@ -25,7 +25,7 @@ use Rattle.script_books.specs.declared.refusal.Refusal.{Refusal}
 use Rattle.script_books.specs.declared.refusal.Refusal.TheVariants as refusal
 use Rattle.script_worlds.specs.WorldView.{AreFoundIn, WorldSeen}
 use Rattle.script_worlds.specs.Worlds.{Setup}
-use Rattle.stream_endpoint.specs.declared.fault.Fault.{Fault}
+use Rattle.net_faults.specs.declared.fault.Fault.{Fault}
 use Rattle.walk_books.specs.declared.found.Found.{Found}
 use Rattle.walk_books.specs.declared.found.FoundNode.{FoundNode}
 use Rattle.script_runner.specs.Routes.{IsBroken, IsRoutable, IsRouted, IsRouting, IsUnknownCause, IsWriteCause, IsWritten, IsWrittenOver, nodes_of}

@@ -28,7 +28,7 @@ use Rattle.script_worlds.specs.WorldView.{WorldSeen}
 use Rattle.script_worlds.specs.WorldView as seen
 use Rattle.script_worlds.specs.Worlds.{Setup}
 use Rattle.script_worlds.specs.declared.runs.RunFault.TheVariants as fault
-use Rattle.stream_endpoint.specs.declared.fault.Fault.{Fault}
+use Rattle.net_faults.specs.declared.fault.Fault.{Fault}
 use Rattle.stream_pump.proofs.Laws.{chosen_books_are_books}
 use Rattle.stream_pump.specs.Running.{CanRun}
 use Rattle.script_runner.specs.ScriptWorlds.{ScriptWorld, nodes_in, with_banks}

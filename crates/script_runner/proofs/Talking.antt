@@ -17,7 +17,7 @@ use Rattle.script_books.specs.declared.refusal.Refusal.TheVariants as refusal
 use Rattle.script_worlds.specs.WorldView.{WorldSeen}
 use Rattle.script_worlds.specs.WorldView as seen
 use Rattle.script_worlds.specs.Worlds.{Setup}
-use Rattle.stream_endpoint.specs.declared.fault.Fault.{Fault}
+use Rattle.net_faults.specs.declared.fault.Fault.{Fault}
 use Rattle.script_runner.specs.ScriptWorlds.{ScriptWorld, with_banks}
 use Rattle.script_runner.specs.Standing.{AreToldFound, HasTold, NetStandsFor, Talks, WorldStandsFor}
 use Rattle.script_runner.specs.Talks.{FitsIn, OnHost, OnHostNode}

@@ -19,7 +19,7 @@ use Rattle.script_books.specs.declared.book.Book.TheVariants as book
 use Rattle.script_books.specs.declared.refusal.Refusal.TheVariants as refusal
 use Rattle.script_worlds.specs.WorldView.{AreFoundIn, WorldSeen}
 use Rattle.script_worlds.specs.Worlds.{Setup, found_in}
-use Rattle.stream_endpoint.specs.declared.fault.Fault.{Fault}
+use Rattle.net_faults.specs.declared.fault.Fault.{Fault}
 use Rattle.topology_walk.specs.Discovery.{IsDiscovered, IsDiscoveredFrom}
 use Rattle.topology_walk.specs.Finding.{IsFoundOf}
 use Rattle.topology_walk.specs.Nodes.{first_found}

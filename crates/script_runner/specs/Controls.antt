@@ -23,7 +23,7 @@ use Rattle.script_books.specs.declared.book.Book.{Book}
 use Rattle.script_books.specs.declared.book.Book.TheVariants as book
 use Rattle.script_books.specs.declared.refusal.Refusal.{Refusal}
 use Rattle.script_books.specs.declared.refusal.Refusal.TheVariants as refusal
-use Rattle.stream_endpoint.specs.declared.fault.Fault.{Fault}
+use Rattle.net_faults.specs.declared.fault.Fault.{Fault}
 use Rattle.script_runner.specs.Talks.{OnHost}
 
 -- the request of a control command: the host's first, from port 0

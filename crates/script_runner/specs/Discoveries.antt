@@ -8,7 +8,7 @@ use Rattle.net_topology.specs.declared.plan.Plan.{Plan}
 use Rattle.script_books.specs.declared.book.Book.{Book}
 use Rattle.script_books.specs.declared.book.Book.TheVariants as book
 use Rattle.script_books.specs.declared.refusal.Refusal.{Refusal}
-use Rattle.stream_endpoint.specs.declared.fault.Fault.{Fault}
+use Rattle.net_faults.specs.declared.fault.Fault.{Fault}
 use Rattle.topology_walk.specs.Finding.{IsFoundOf}
 use Rattle.topology_walk.specs.Nodes.{first_found}
 use Rattle.topology_walk.specs.Probes.{AreFirst, IsFoundBy, Probe, probed_all}

@@ -17,7 +17,7 @@ use Rattle.script_books.specs.declared.refusal.Refusal.TheVariants as refusal
 use Rattle.script_worlds.specs.Books.{IsNetBook, IsQuietBook}
 use Rattle.script_worlds.specs.Causes.{IsRunCause}
 use Rattle.script_worlds.specs.Worlds.{IsNext, plan_of, unless_refused}
-use Rattle.stream_endpoint.specs.declared.fault.Fault.{Fault}
+use Rattle.net_faults.specs.declared.fault.Fault.{Fault}
 use Rattle.stream_pump.specs.Running.{CanRun}
 use Rattle.script_runner.specs.Controls.{IsControlled, control_of}
 use Rattle.script_runner.specs.Discoveries.{IsWalked}

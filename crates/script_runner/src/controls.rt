@@ -9,10 +9,10 @@ use block_registers::RegisterSlots;
 use chdr_words::{Control, CtrlOp, CtrlStatus, Epid, Words15};
 use ctrl_transactions::{CtrlFault, Host};
 use fabric_net::Net;
+use net_faults::Faults;
 use rf_base::Memory;
 use script_books::{Book, Refusal};
 use std::alloc::Global;
-use stream_endpoint::Faults;
 
 /// The request of a control command.
 pub(crate) fn request_of(

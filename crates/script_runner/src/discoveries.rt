@@ -10,11 +10,11 @@ use crate::talks::{Talk, converse, has_host, name};
 use block_registers::RegisterSlots;
 use chdr_words::Epid;
 use fabric_net::Net;
+use net_faults::Faults;
 use rf_base::{Copyable, Memory};
 use script_books::{Book, Refusal};
 use script_worlds::World;
 use std::alloc::Global;
-use stream_endpoint::Faults;
 
 /// A walk from a host, with what it loses.
 #[derive(Clone, Copy)]

@@ -12,12 +12,12 @@ use crate::talks::{Talk, converse, has_host, name};
 use block_registers::RegisterSlots;
 use chdr_words::Epid;
 use fabric_net::Net;
+use net_faults::Faults;
 use rf_base::{Copyable, Items, Memory};
 use route_writes::{RouteFault, unknown, write_route};
 use script_books::{Book, Found, Refusal};
 use script_worlds::World;
 use std::alloc::Global;
-use stream_endpoint::Faults;
 
 /// A route between two EPIDs that a host writes by what was found, with what it loses.
 #[derive(Clone, Copy)]

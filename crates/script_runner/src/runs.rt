@@ -5,12 +5,12 @@ ghost use Rattle.script_runner.specs.ScriptWorlds.{ScriptWorld};
 ghost use Rattle.script_runner.specs.Standing.{Performs, WorldStandsFor};
 
 use block_registers::RegisterSlots;
+use net_faults::Faults;
 use net_machine::Seed;
 use rf_base::Memory;
 use script_books::Book;
 use script_worlds::{RunFault, World};
 use std::alloc::Global;
-use stream_endpoint::Faults;
 use stream_pump::run_one;
 
 /// Runs all streams of a world to their ends, if nothing refuses it.

@@ -13,11 +13,11 @@ ghost use Rattle.script_runner.specs.Talks.{FitsIn};
 use block_registers::RegisterSlots;
 use chdr_words::Epid;
 use fabric_net::Net;
+use net_faults::Faults;
 use rf_base::Memory;
 use script_books::{Book, Refusal};
 use script_worlds::World;
 use std::alloc::Global;
-use stream_endpoint::Faults;
 
 /// A command by which a host of a network talks.
 pub(crate) trait Talk {

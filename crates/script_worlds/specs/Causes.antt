@@ -27,7 +27,7 @@ use Rattle.run_plans.specs.declared.layout.PlacedBlock.{PlacedBlock}
 use Rattle.script_books.specs.Refusals.{commit_refusal, plan_refusal}
 use Rattle.script_books.specs.declared.refusal.Refusal.{Refusal}
 use Rattle.script_books.specs.declared.refusal.Refusal.TheVariants as refusal
-use Rattle.stream_endpoint.specs.declared.fault.Fault.{Fault}
+use Rattle.net_faults.specs.declared.fault.Fault.{Fault}
 use Rattle.script_worlds.specs.Worlds.{Setup}
 
 -- ---- a part's refusals as those of a script

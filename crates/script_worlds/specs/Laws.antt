@@ -5,7 +5,7 @@ use Rattle.graph_core.specs.declared.place.PropAt.{PropAt}
 use Rattle.rf_script_types.specs.declared.command.ScriptCommand.{ScriptCommand}
 use Rattle.run_plans.specs.Planned.{plan_of}
 use Rattle.script_books.specs.declared.book.Book.{Book}
-use Rattle.stream_endpoint.specs.declared.fault.Fault.{Fault}
+use Rattle.net_faults.specs.declared.fault.Fault.{Fault}
 use Rattle.script_worlds.specs.Worlds.{IsNext, Setup}
 
 -- two setups are the same, but for the order of the committed values

@@ -5,7 +5,7 @@ use Rattle.fabric_net.specs.Standing.{IsResting}
 use Rattle.net_machine.specs.CanBegin.{CanBegin}
 use Rattle.net_machine.specs.declared.plan.RunPlan.{RunPlan}
 use Rattle.run_plans.specs.Planned.{plan_of}
-use Rattle.stream_endpoint.specs.declared.fault.Fault.{Fault}
+use Rattle.net_faults.specs.declared.fault.Fault.{Fault}
 use Rattle.script_worlds.specs.Causes.{IsRunCause}
 use Rattle.script_worlds.specs.WorldView.{WorldSeen, nodes_in}
 use Rattle.script_worlds.specs.declared.runs.RunFault.{RunFault}

@@ -6,11 +6,11 @@ use crate::World;
 use crate::told::of_run;
 use chdr_words::Epid;
 use fabric_net::Net;
+use net_faults::Faults;
 use net_machine::RunPlan;
 use rf_base::Memory;
 use run_plans::{Reaches, run_refusal};
 use script_books::Refusal;
-use stream_endpoint::Faults;
 use thiserror::Error;
 
 /// Why a run doesn't begin.

@@ -2,14 +2,12 @@
 #![tactic(auto)]
 
 mod count;
-mod fault;
 mod flow;
 mod in_end;
 mod out_end;
 mod state;
 
 pub use count::Count;
-pub use fault::{Fault, Faults};
 pub use flow::{Flow, Policy};
 pub use in_end::InEnd;
 pub use out_end::OutEnd;

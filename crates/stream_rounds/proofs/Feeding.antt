@@ -25,7 +25,7 @@ use Rattle.net_machine.specs.Faults.{is_named}
 use Rattle.net_machine.specs.Queues.{forward_vc}
 use Rattle.net_machine.specs.Streams.{numbered}
 use Rattle.stream_endpoint.specs.Sender.{next_number}
-use Rattle.stream_endpoint.specs.declared.fault.Fault.TheVariants.{Samples}
+use Rattle.net_faults.specs.declared.fault.Fault.TheVariants.{Samples}
 use Rattle.net_machine.specs.Plain.{made_for, numbered_from}
 use Rattle.net_machine.specs.Plans.{block_at, first_link, is_tx, no_block, no_epid, plan_at, producer_of}
 use Rattle.net_machine.specs.Promises.{made_on}

@@ -1,10 +1,11 @@
 use chdr_words::StatusCode::{Okay, SeqErr};
 use chdr_words::{CmdOp, Command, Epid, Status, StatusCode, Word};
+use net_faults::{Fault, Faults};
 use rf_base::Copyable;
 use std::process::Abort;
 use std::test::Fail;
 use stream_endpoint::OutState::{Opening, Resyncing, Running};
-use stream_endpoint::{Arrived, Count, Fault, Faults, Flow, Gap, InEnd, OutEnd, OutState, Policy};
+use stream_endpoint::{Arrived, Count, Flow, Gap, InEnd, OutEnd, OutState, Policy};
 
 /// 96 bytes and 4 packets, with a status after each packet of 24 bytes.
 const FLOW: Flow = Flow {

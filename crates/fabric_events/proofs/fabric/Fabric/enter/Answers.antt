@@ -11,7 +11,7 @@ use Rattle.net_present.specs.Onward.{enters_now, entries_at}
 use Rattle.net_present.specs.Present.{front_now_of}
 use Rattle.net_present.specs.StreamSteps.{sends_first_now}
 use Rattle.stream_endpoint.specs.Sender.{next_number}
-use Rattle.stream_endpoint.specs.declared.fault.Fault.TheVariants as fault
+use Rattle.net_faults.specs.declared.fault.Fault.TheVariants as fault
 use Rattle.fabric_parts.specs.Streams.{StreamSeen}
 use Rattle.fabric_events.specs.Fabrics.{present_of}
 use Rattle.fabric_lists.specs.StreamsView.{streams_of}

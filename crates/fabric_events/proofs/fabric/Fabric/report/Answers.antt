@@ -11,7 +11,7 @@ use Rattle.net_present.specs.Kept.{now_at}
 use Rattle.net_present.specs.Onward.{entries_at}
 use Rattle.net_present.specs.StreamSteps.{receiving_now, sends_status_now}
 use Rattle.stream_endpoint.specs.InEnd.{status_of}
-use Rattle.stream_endpoint.specs.declared.fault.Fault.TheVariants as fault
+use Rattle.net_faults.specs.declared.fault.Fault.TheVariants as fault
 use Rattle.fabric_parts.specs.Streams.{StreamSeen}
 use Rattle.fabric_events.specs.Fabrics.{present_of}
 use Rattle.fabric_lists.specs.StreamsView.{streams_of}
