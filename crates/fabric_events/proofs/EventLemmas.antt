@@ -38,6 +38,7 @@ sound_queues f queues q next sound entries room = record {
   txs = sound.txs;
   kinds = sound.kinds;
   items = sound.items;
+  feeding = sound.feeding;
   few_streams = sound.few_streams;
   few_blocks = sound.few_blocks;
 }
@@ -75,6 +76,7 @@ sound_streams f g s next sound same streams = subst IsSound (sym same) (record {
   txs = ap (λ (v : StreamsSeen). v.txs) streams ∙ sound.txs;
   kinds = sound.kinds;
   items = sound.items;
+  feeding = sound.feeding;
   few_streams = sound.few_streams;
   few_blocks = sound.few_blocks;
 })
@@ -180,6 +182,7 @@ sound_fed f g s next b i packet sound same streams blocks = subst IsSound (sym s
   items = ap (λ (bs : List BlockNow). map item_now bs) blocks
       ∙ map-set_same item_now (blocks_of f.blocks.items) b (block_fed i packet (block_now_at (blocks_of f.blocks.items) b)) (idle_block b)
       (item_kept (block_now_at (blocks_of f.blocks.items) b) i packet) ∙ sound.items;
+  feeding = sound.feeding;
   few_streams = sound.few_streams;
   few_blocks = sound.few_blocks;
 })

@@ -16,3 +16,4 @@ mod WalkLemmas
 mod PassLemmas
 mod DoableLemmas
 pub mod Laws
+mod EarlyLemmas

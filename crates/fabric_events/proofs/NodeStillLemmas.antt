@@ -59,7 +59,8 @@ idle_ask : (p : Present) (x : ℕ) → has_work (node_in p.nodes x) ≡ false �
 unfolding doable_now may
 idle_ask p x h = no_ask (node_in p.nodes x).requests (node_in p.nodes x).pending _ h
 
-set_within : (flags : List Bool) (x : ℕ) → flag_at flags x ≡ true → x < length flags
+-- a flag that is set is there
+pub set_within : (flags : List Bool) (x : ℕ) → flag_at flags x ≡ true → x < length flags
 set_within [] x h = absurd (false≢true h)
 set_within (b ∷ flags) zero h = omega arith
 set_within (b ∷ flags) (suc x) h = let rest = set_within flags x h in omega arith

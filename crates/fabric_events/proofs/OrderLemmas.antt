@@ -1,6 +1,6 @@
 -- Which commands may be sent, by the sender and by what the network tells of its stream.
 use Rattle.std.proofs.Common.{◌≡◌, ℕ, Bool, true, false, List, [], ◌∷◌, refl, sym, ◌∙◌, ap}
-use Rattle.std.specs.Prelude.{◌&&◌, ◌||◌, not}
+use Rattle.std.specs.Prelude.{◌&&◌, ◌||◌, ◌==◌, not}
 use Rattle.chdr_packets.specs.declared.packet.Packet.{Packet}
 use Rattle.chdr_words.specs.declared.command.CmdOp.{CmdOp}
 use Rattle.chdr_words.specs.declared.command.CmdOp.TheVariants.{Init, Ping, Resync, Other}
@@ -12,11 +12,12 @@ use Rattle.stream_endpoint.specs.declared.flow.Flow.{Flow}
 use Rattle.stream_endpoint.specs.declared.state.OutState.{OutState}
 use Rattle.stream_endpoint.specs.declared.state.OutState.TheVariants.{Opening, Running, Halted, Resyncing}
 use Rattle.net_machine.specs.Blocks.{is_closed}
-use Rattle.net_machine.specs.Conditions.{can_order, is_opening, is_quiet, is_resyncing, is_stuck}
+use Rattle.net_machine.specs.Conditions.{can_order, is_opening, is_quiet, is_resyncing, is_stuck, none_under_way}
 use Rattle.net_machine.specs.Front.{Front, StreamFront, front_at}
 use Rattle.net_machine.specs.Plans.{plan_at}
 use Rattle.net_present.specs.Kept.{now_at}
 use Rattle.net_present.specs.Present.{Present, StreamNow, front_now, front_now_of}
+use Rattle.fabric_lists.specs.StreamFlags.{is_calm}
 use Rattle.fabric_events.proofs.FrontLemmas.{and_false, front_of_stream}
 
 opening-same : (st : OutState) → rule.is_opening st ≡ is_opening st
@@ -127,3 +128,33 @@ order_waits p s op h =
     let closed = is_closed (front_now p) s in
     let none : by-front flow (front_now_of n) quiet true op ≡ false = sym (now-is flow n quiet true op) ∙ h in
     sym (order_is p s op) ∙ now-is flow n quiet closed op ∙ waits flow n quiet closed op none
+
+less-quiet : (a b calm : Bool) → (a && (b || calm)) ≡ false → (a && (b || false)) ≡ false
+less-quiet true true calm h = h
+less-quiet true false calm h = refl
+less-quiet false b calm h = refl
+
+-- a stream is quiet only if it is calm
+quiets : (flow : Flow) (st : StreamFront) (none calm closed : Bool) (op : CmdOp) → by-front flow st calm closed op ≡ false
+    → by-front flow st (none && calm) closed op ≡ false
+quiets flow st true calm closed op h = h
+quiets flow st false calm closed Init h = less-quiet (is_opening st.state) (not st.commanded) calm h
+quiets flow st false calm closed Ping h = and_false (is_running st.state)
+quiets flow st false calm closed Resync h = less-quiet (is_resyncing st.state) (not st.commanded) calm h
+quiets flow st false calm closed (Other code) h = refl
+
+-- what a stream by itself doesn't allow, where its producer is finished, isn't allowed
+pub order_calm : (p : Present) (s : ℕ) (op : CmdOp) →
+    may_order (now_at p.streams s).sender (is_calm (now_at p.streams s))
+    (is_stuck (plan_at p.plan s).flow (front_now_of (now_at p.streams s)) true (now_at p.streams s).ready) op ≡ false
+    → can_order (front_now p) s op ≡ false
+order_calm p s op h =
+    let flow = (plan_at p.plan s).flow in
+    let n = now_at p.streams s in
+    let closed = is_closed (front_now p) s in
+    let none = none_under_way p.queues (plan_at p.plan s) in
+    let calm : by-front flow (front_now_of n) (is_calm n) closed op ≡ false =
+    waits flow n (is_calm n) closed op (sym (now-is flow n (is_calm n) true op) ∙ h) in
+    machine-is (front_now p) s op
+    ∙ ap (λ (st : StreamFront). by-front flow st (none && (not st.due && (st.taken == st.given))) closed op) (front_of_stream p s)
+    ∙ quiets flow (front_now_of n) none (is_calm n) closed op calm

@@ -1,6 +1,6 @@
 -- At which places of the order of choosing no event can happen, by which queues hold and lose an entry.
-use Rattle.std.proofs.Common.{◌≡◌, ◌⊎◌, ℕ, zero, suc, ◌+◌, ◌-◌, ◌*◌, ◌<◌, ◌≤◌, true, false, List, [], ◌∷◌, ◌++◌, length, refl, sym, ◌∙◌, ap, subst, Option, Some, inl, inr, arith}
-use Rattle.std.specs.Prelude.{slice_get}
+use Rattle.std.proofs.Common.{◌≡◌, ◌⊎◌, ℕ, zero, suc, ◌+◌, ◌-◌, ◌*◌, ◌<◌, ◌≤◌, true, false, List, [], ◌∷◌, ◌++◌, length, refl, sym, ◌∙◌, ap, subst, max, Option, None, Some, inl, inr, arith}
+use Rattle.std.specs.Prelude.{MatchOption, slice_get}
 use Rattle.std.specs.List.{flat_map, range_with_len}
 use Rattle.std.proofs.lemmas.Bool.{cases_order, false≢true}
 use Rattle.fabric_flags.specs.Set.{IsNext, NoneFrom}
@@ -81,7 +81,7 @@ idle_hop : (p : Present) (q : ℕ) → holds p.queues q ≡ false → doable_now
 unfolding doable_now may
 idle_hop p q h = no_hop (front_now p) q (entries_at p.queues q) h
 
-same_event : (d e : Event) → Some d ≡ Some e → e ≡ d
+pub same_event : (d e : Event) → Some d ≡ Some e → e ≡ d
 same_event d e h = cc
 
 -- the events of one sort, for the numbers from a to before b, stand from place m on, and none of them can happen
@@ -109,6 +109,18 @@ still_by p s k m n i e first rest from to is (inr (inr past)) = rest i e (omega 
 -- up to m, and from there on
 pub still_on : (p : Present) (s : Sizes) (k m n : ℕ) → IsStill p s k m → IsStill p s (m + (k - m)) n → IsStill p s k n
 still_on p s k m n first rest = λ i e from to is. still_by p s k m n i e first rest from to is (cases_order i m)
+
+-- so where the second place is told as the greater of two
+pub still_by_max : (p : Present) (s : Sizes) (k l m n : ℕ) → IsStill p s k l → m ≡ max k l → IsStill p s m n → IsStill p s k n
+still_by_max p s k l m n first at rest =
+    let same : m ≡ l + (k - l) = omega arith in
+    still_on p s k l n first (subst (λ (x : ℕ). IsStill p s x n) same rest)
+
+-- and where there may be no place behind it
+pub still_if : (p : Present) (s : Sizes) (k l m end : ℕ) (next : Option ℕ) → IsStill p s k l → m ≡ max k l
+    → MatchOption next (IsStill p s m end) (λ n. IsStill p s m n) → MatchOption next (IsStill p s k end) (λ n. IsStill p s k n)
+still_if p s k l m end None first at rest = still_by_max p s k l m end first at rest
+still_if p s k l m end (Some n) first at rest = still_by_max p s k l m n first at rest
 
 -- up to the first Lose, and from there on
 pub still_through : (p : Present) (s : Sizes) (k l n : ℕ) → l ≡ first_loss s → k ≤ l → IsStill p s k (first_loss s) → IsStill p s l n

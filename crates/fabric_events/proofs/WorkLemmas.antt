@@ -68,6 +68,7 @@ sound_sites f g sound same shapes working = subst IsSound (sym same) (record {
   txs = sound.txs;
   kinds = sound.kinds;
   items = sound.items;
+  feeding = sound.feeding;
   few_streams = sound.few_streams;
   few_blocks = sound.few_blocks;
 })

@@ -10,7 +10,7 @@ use Rattle.net_machine.specs.Queues.{queue_count}
 use Rattle.net_machine.specs.declared.plan.BlockPlan.{BlockPlan}
 use Rattle.net_present.specs.Present.{BlockNow, Present}
 use Rattle.fabric_lists.specs.BlocksView.{blocks_of}
-use Rattle.fabric_lists.specs.Opened.{txs_in}
+use Rattle.fabric_lists.specs.Opened.{feeding_in, txs_in}
 use Rattle.fabric_lists.specs.SitesView.{shapes_in, sites_of, working_in}
 use Rattle.fabric_lists.specs.StreamsView.{streams_of}
 use Rattle.fabric_events.specs.declared.fabric.Fabric.{Fabric}
@@ -42,7 +42,7 @@ abbrev pub item_planned : BlockPlan → ℕ
 item_planned b = b.item
 
 -- There is a queue, a node, a stream and a block for each of the tree and the plan, and each is made for it. Exactly the
--- flags of the nodes are set that a request or an answer is to leave.
+-- flags are set of the nodes that a request or an answer is to leave, and of the blocks that are fed.
 pub record IsSound (f : Fabric) : Type 0 where
   pub queues : length f.queues.entries ≡ queue_count f.wires
   pub room : f.queues.room ≡ f.wires.room
@@ -52,6 +52,7 @@ pub record IsSound (f : Fabric) : Type 0 where
   pub txs : (streams_of f.streams.items).txs ≡ txs_in f.plan
   pub kinds : map kind_now (blocks_of f.blocks.items) ≡ map kind_planned f.plan.blocks
   pub items : map item_now (blocks_of f.blocks.items) ≡ map item_planned f.plan.blocks
+  pub feeding : f.feeding ≡ feeding_in f.plan
   pub few_streams : length f.plan.streams ≤ 16
   pub few_blocks : length f.plan.blocks ≤ 32
 

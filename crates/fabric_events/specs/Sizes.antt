@@ -22,6 +22,16 @@ candidates_in sizes =
 abbrev pub candidate_count : Sizes → ℕ
 candidate_count sizes = 5 * sizes.streams + 2 * sizes.blocks + 2 * sizes.nodes + 2 * sizes.queues
 
+-- the places of the first Command, of the first Report, and of the first Feed
+abbrev pub first_order : Sizes → ℕ
+first_order sizes = sizes.streams
+
+abbrev pub first_report : Sizes → ℕ
+first_report sizes = 4 * sizes.streams
+
+abbrev pub first_feed : Sizes → ℕ
+first_feed sizes = 5 * sizes.streams
+
 -- the places of the first Reply and of the first Lose
 abbrev pub first_reply : Sizes → ℕ
 first_reply sizes = 5 * sizes.streams + 2 * sizes.blocks

@@ -5,7 +5,7 @@ ghost use Rattle.fabric_events.specs.Begun.{begun_now};
 ghost use Rattle.fabric_events.specs.Fabrics.{IsSound, present_of};
 
 use crate::fabric::Fabric;
-use fabric_lists::{opened_streams, unfed_blocks};
+use fabric_lists::{fed_blocks, opened_streams, unfed_blocks};
 use net_machine::RunPlan;
 use rf_base::{Copyable, Memory};
 
@@ -25,11 +25,13 @@ impl Fabric {
         let alloc = *self.streams.allocator();
         let streams = opened_streams(alloc, plan)?;
         let blocks = unfed_blocks(alloc, plan)?;
+        let feeding = fed_blocks(alloc, plan)?;
         let copy = plan.copy()?;
         let faults = plan.faults.copy()?;
         self.plan = copy;
         self.streams = streams;
         self.blocks = blocks;
+        self.feeding = feeding;
         self.faults = faults;
         self.requests = 0;
         self.answers = 0;

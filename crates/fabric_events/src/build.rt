@@ -8,7 +8,7 @@ ghost use Rattle.fabric_events.specs.Fabrics.{IsSound, present_of};
 
 use crate::fabric::Fabric;
 use fabric_flags::Flags;
-use fabric_lists::{Queues, built_sites};
+use fabric_lists::{Queues, Streams, built_sites};
 use fabric_nodes::Wires;
 use net_machine::RunPlan;
 use net_topology::Topology;
@@ -28,6 +28,8 @@ impl Fabric {
         let queues = Queues::new(alloc, 4 * plan.links.len(), plan.room)?;
         let sites = built_sites(alloc, topology, &wires, routed)?;
         let working = idle_flags(alloc, topology, routed)?;
+        let streams = Streams::new(alloc, Vec::new(alloc))?;
+        let feeding = Flags::new(alloc, 0)?;
         Ok(Fabric {
             wires,
             plan: RunPlan {
@@ -38,8 +40,9 @@ impl Fabric {
             queues,
             sites,
             working,
-            streams: Vec::new(alloc),
+            streams,
             blocks: Vec::new(alloc),
+            feeding,
             faults: Items::new(alloc),
             requests: 0,
             answers: 0,

@@ -1,7 +1,7 @@
 ghost use Rattle.std.specs.Prelude.{◌≡◌, ◌<◌, ℕ, length, slice_get, Some};
 ghost use Rattle.net_machine.specs.declared.event.Event.TheVariants.{Command};
 ghost use Rattle.net_machine.specs.Choice.{commands_of};
-ghost use Rattle.fabric_events.specs.Sizes.{candidate_count, candidates_in, first_loss, first_reply};
+ghost use Rattle.fabric_events.specs.Sizes.{candidate_count, candidates_in, first_feed, first_loss, first_order, first_reply, first_report};
 
 use chdr_words::CmdOp;
 use net_machine::Event;
@@ -25,6 +25,27 @@ impl Sizes {
             + 2 * self.blocks as usize
             + 2 * self.nodes as usize
             + 2 * self.queues as usize
+    }
+
+    /// The place of the first Command, behind the Enters.
+    pub fn orders(self) -> usize
+        ensures { result ≡ first_order self }
+    {
+        self.streams as usize
+    }
+
+    /// The place of the first Report, behind the Enters and Commands.
+    pub fn reports(self) -> usize
+        ensures { result ≡ first_report self }
+    {
+        4 * self.streams as usize
+    }
+
+    /// The place of the first Feed, behind the events of streams.
+    pub fn feeds(self) -> usize
+        ensures { result ≡ first_feed self }
+    {
+        5 * self.streams as usize
     }
 
     /// The place of the first Reply, behind the events of streams and blocks.

@@ -86,71 +86,6 @@ impl Fabric {
 }
 
 impl Fabric {
-    /// The first place from k on whose event isn't of a node or a queue that has none; without one the number of places.
-    fn next_place(&self, sizes: Sizes, k: usize) -> usize
-        requires sound { IsSound self.now }
-        requires sizes { sizes ≡ sizes_of (present_of self.now) }
-        requires there { k ≤ candidate_count sizes }
-        ensures from { k ≤ result }
-        ensures within { result ≤ candidate_count sizes }
-        ensures still { IsStill (present_of self.now) sizes k result }
-    {
-        let losses = sizes.losses();
-        if k >= losses {
-            return self.next_at_queue(sizes, k);
-        }
-        if k < sizes.replies() {
-            return k;
-        }
-        match self.next_at_node(sizes, k) {
-            Some(place) => place,
-            None => self.next_at_queue(sizes, losses),
-        }
-    }
-
-    /// The first place from k on of a Reply or an Ask of a node with something to do; k is past the feeds.
-    fn next_at_node(&self, sizes: Sizes, k: usize) -> Option<usize>
-        requires sound { IsSound self.now }
-        requires sizes { sizes ≡ sizes_of (present_of self.now) }
-        requires from { first_reply sizes ≤ k }
-        ensures from { IfSome result (λ n. k ≤ n) }
-        ensures within { IfSome result (λ n. n ≤ candidate_count sizes) }
-        ensures still { MatchOption result
-            (IsStill (present_of self.now) sizes k (first_loss sizes))
-            (λ n. IsStill (present_of self.now) sizes k n) }
-    {
-        let replies = sizes.replies();
-        if let Some(x) = self.working.next_from(k - replies) {
-            return Some(replies + x);
-        }
-        let asks = replies + sizes.nodes as usize;
-        match self.working.next_from(k.saturating_sub(asks)) {
-            Some(x) => Some(asks + x),
-            None => None,
-        }
-    }
-
-    /// The first place from k on of a Lose of a marked entry or a Hop of a queue that holds one; k is past the asks.
-    fn next_at_queue(&self, sizes: Sizes, k: usize) -> usize
-        requires sound { IsSound self.now }
-        requires sizes { sizes ≡ sizes_of (present_of self.now) }
-        requires past { first_loss sizes ≤ k }
-        requires there { k ≤ candidate_count sizes }
-        ensures from { k ≤ result }
-        ensures within { result ≤ candidate_count sizes }
-        ensures still { IsStill (present_of self.now) sizes k result }
-    {
-        let losses = sizes.losses();
-        let hops = losses + sizes.queues as usize;
-        if let Some(q) = self.queues.next_marked(k - losses) {
-            return losses + q;
-        }
-        match self.queues.next_held(k.saturating_sub(hops)) {
-            Some(q) => hops + q,
-            None => sizes.count(),
-        }
-    }
-
     /// How many events can happen, takings left out.
     fn count_doable(&self, sizes: Sizes) -> usize
         requires sound { IsSound self.now }
@@ -191,7 +126,8 @@ impl Fabric {
 
     /// The event that a seed chooses among those that can happen.
     ///
-    /// It looks at those of streams and blocks, of nodes with something to do, and of queues that hold or lose an entry.
+    /// It looks at those of streams that may have one by themselves, of blocks that are fed, of nodes with something to
+    /// do, and of queues that hold or lose an entry.
     #[tactic(auto, using(crate::proofs::ChoosingLemmas::zero_stays))]
     pub fn choose(&self, seed: &mut Seed) -> Option<Event>
         requires { IsSound self.now }

@@ -1,7 +1,7 @@
 use fabric_flags::Flags;
-use fabric_lists::Queues;
+use fabric_lists::{Queues, Streams};
 use fabric_nodes::{Site, Wires};
-use fabric_parts::{BlockPart, StreamPart};
+use fabric_parts::BlockPart;
 use net_faults::Faults;
 use net_machine::RunPlan;
 
@@ -14,8 +14,10 @@ pub struct Fabric {
     pub sites: Vec<Site>,
     /// Which nodes have a request or an answer that is to leave them.
     pub working: Flags,
-    pub streams: Vec<StreamPart>,
+    pub streams: Streams,
     pub blocks: Vec<BlockPart>,
+    /// Which blocks are fed in the network.
+    pub feeding: Flags,
     /// The packets to lose.
     pub faults: Faults,
     /// How many requests and answers entered their first queue.

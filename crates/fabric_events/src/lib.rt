@@ -16,6 +16,7 @@ mod hops;
 pub mod law;
 mod onward;
 mod orders;
+mod places;
 mod reserving;
 mod walks;
 

@@ -1,6 +1,8 @@
 mod PartLemmas
 mod HeldLemmas
 mod StreamLemmas
+mod FilledLemmas
+mod FlagLemmas
 mod SiteLemmas
 mod BlockLemmas
 mod RoutedLemmas

@@ -9,6 +9,7 @@ use Rattle.net_machine.specs.declared.plan.StreamPlan.{StreamPlan}
 use Rattle.net_present.specs.Kept.{idle_now, now_at}
 use Rattle.net_present.specs.Present.{StreamNow}
 use Rattle.fabric_parts.specs.Streams.{StreamSeen, on_stream}
+use Rattle.fabric_lists.specs.StreamList.{StreamList}
 use Rattle.fabric_lists.specs.StreamsView.{now_in, on_at, plan_in, plan_seen, streams_of, tx_in, tx_seen}
 
 -- what is read at a place of a list that is there
@@ -52,3 +53,24 @@ pub plan_past : (parts : List StreamSeen) (s : ℕ) → length parts ≤ s → p
 plan_past parts s past =
     let all : length (map plan_in parts) ≤ s = subst (λ (n : ℕ). n ≤ s) (sym (length-map parts plan_in)) past in
     get_or-eq_default (map plan_in parts) no_stream all
+
+-- the streams that contracts see are the parts
+pub seen_in : (parts : List StreamSeen) (seen : StreamList) → record { items = parts } ≡ seen → parts ≡ seen.items
+seen_in parts seen is = ap (λ (v : StreamList). v.items) is
+
+pub there_in : (parts : List StreamSeen) (seen : StreamList) (s : ℕ) → record { items = parts } ≡ seen → s < length seen.items → s < length parts
+there_in parts seen s is there = subst (λ (ps : List StreamSeen). s < length ps) (sym (seen_in parts seen is)) there
+
+-- a stream that was read of those that contracts see
+pub found_in : (parts : List StreamSeen) (seen : StreamList) (s : ℕ) (part : StreamSeen) → record { items = parts } ≡ seen
+    → s < length seen.items → part ≡ get_or parts s part → Found seen.items s part
+found_in parts seen s part is there here =
+    subst (λ (ps : List StreamSeen). Found ps s part) (seen_in parts seen is) (found parts s part (there_in parts seen s is there) here)
+
+-- and one that was written
+pub written_in : (parts : List StreamSeen) (seen : StreamList) (s : ℕ) (old new : StreamSeen) (next : StreamNow → StreamNow)
+    → record { items = parts } ≡ seen → s < length seen.items → old ≡ get_or parts s old → new ≡ on_stream next old
+    → streams_of (set parts s new) ≡ on_at s next (streams_of seen.items)
+written_in parts seen s old new next is there here then =
+    written parts s old new next (there_in parts seen s is there) here then
+    ∙ ap (λ (ps : List StreamSeen). on_at s next (streams_of ps)) (seen_in parts seen is)

@@ -1,11 +1,12 @@
 -- What is made of a plan as a run of it begins, and which of its streams a Tx fills.
-use Rattle.std.specs.Prelude.{ℕ, Bool, false, List, [], length, map}
+use Rattle.std.specs.Prelude.{ℕ, ◌&&◌, Bool, false, List, [], length, map, nat_lt, not}
 use Rattle.std.specs.List.{range_with_len}
 use Rattle.std.specs.Option.{option_map_or}
 use Rattle.block_library.specs.Lines.{empty_line}
 use Rattle.block_library.specs.Memory.{kept_of, lists}
 use Rattle.net_machine.specs.Begin.{opened}
-use Rattle.net_machine.specs.Plans.{block_at, is_tx, producer_of}
+use Rattle.net_machine.specs.Plans.{block_at, is_rx, is_tx, producer_of}
+use Rattle.net_machine.specs.declared.plan.BlockPlan.{BlockPlan}
 use Rattle.net_machine.specs.declared.plan.RunPlan.{RunPlan}
 use Rattle.net_machine.specs.declared.plan.StreamPlan.{StreamPlan}
 use Rattle.net_present.specs.Kept.{stream_now}
@@ -29,3 +30,11 @@ unfed plan b = record {
   kept = kept_of (block_at plan b).kind (block_at plan b).item (lists [] []);
   line = empty_line b;
 }
+
+-- packets are fed to a block in the network: it is no Rx, and has an input
+abbrev pub is_fed : BlockPlan → Bool
+is_fed block = not (is_rx block.kind) && nat_lt 0 (length block.ins)
+
+-- which blocks of a plan are fed
+abbrev pub feeding_in : RunPlan → List Bool
+feeding_in plan = map is_fed plan.blocks

@@ -7,18 +7,32 @@ ghost use Rattle.net_machine.specs.CanBegin.{FitsRun};
 ghost use Rattle.net_machine.specs.Plans.{plan_at};
 ghost use Rattle.fabric_parts.specs.Ready.{ready_first};
 ghost use Rattle.fabric_lists.specs.BlocksView.{blocks_of};
-ghost use Rattle.fabric_lists.specs.Opened.{is_tx_stream, opened_now, txs_in, unfed};
+ghost use Rattle.fabric_lists.specs.Opened.{feeding_in, is_fed, is_tx_stream, opened_now, txs_in, unfed};
 ghost use Rattle.fabric_lists.specs.StreamsView.{streams_of};
 
+use crate::streams::Streams;
 use block_library::TxPlan;
+use fabric_flags::Flags;
 use fabric_parts::{BlockPart, StreamPart};
-use net_machine::RunPlan;
-use plan_lookups::{is_tx, producer_of, stream_at};
+use net_machine::{BlockPlan, RunPlan};
+use plan_lookups::{is_rx, is_tx, producer_of, stream_at};
 use rf_base::Memory;
 use std::alloc::Global;
 
 /// The streams of a plan as they begin.
-pub fn opened_streams(alloc: Global, plan: &RunPlan) -> Result<Vec<StreamPart>, Memory>
+pub fn opened_streams(alloc: Global, plan: &RunPlan) -> Result<Streams, Memory>
+    requires { FitsRun plan.now }
+    ensures plans { IfOk result (λ streams. (streams_of streams.items).plans ≡ plan.now.streams) }
+    ensures txs { IfOk result (λ streams. (streams_of streams.items).txs ≡ txs_in plan.now) }
+    ensures now { IfOk result (λ streams. (streams_of streams.items).now
+        ≡ map (opened_now plan.now) plan.now.streams) }
+{
+    let parts = opened_parts(alloc, plan)?;
+    Streams::new(alloc, parts)
+}
+
+/// Each stream of a plan as it begins.
+fn opened_parts(alloc: Global, plan: &RunPlan) -> Result<Vec<StreamPart>, Memory>
     requires { FitsRun plan.now }
     ensures plans { IfOk result (λ streams. (streams_of streams.items).plans ≡ plan.now.streams) }
     ensures txs { IfOk result (λ streams. (streams_of streams.items).txs ≡ txs_in plan.now) }
@@ -91,4 +105,24 @@ fn unfed_block(alloc: Global, plan: &RunPlan, b: usize) -> Result<BlockPart, Mem
 {
     let block = &plan.blocks.as_slice()[b];
     BlockPart::new(alloc, b as u16, block.kind, block.item)
+}
+
+/// Which blocks of a plan are fed, so that a choice looks at no feed of another.
+///
+/// The flags stay as they are for a run, and say nothing of what waits at an input: few blocks of a run are fed.
+pub fn fed_blocks(alloc: Global, plan: &RunPlan) -> Result<Flags, Memory>
+    ensures { IfOk result (λ flags. flags ≡ feeding_in plan.now) }
+{
+    let mut flags = Flags::new(alloc, plan.blocks.len())?;
+    for b in 0..plan.blocks.len() {
+        flags.set(b, is_fed(&plan.blocks.as_slice()[b]));
+    }
+    Ok(flags)
+}
+
+/// Whether packets are fed to a block in the network: one with an input that is no Rx.
+fn is_fed(block: &BlockPlan) -> bool
+    ensures { result ≡ is_fed block.now }
+{
+    !is_rx(block.kind) && block.ins.len() > 0
 }

@@ -7,9 +7,11 @@ mod build;
 mod hints;
 mod queues;
 pub mod sites;
+mod stream_flags;
 pub mod stream_reads;
 pub mod streams;
 
-pub use begin::{opened_streams, unfed_blocks};
+pub use begin::{fed_blocks, opened_streams, unfed_blocks};
 pub use build::built_sites;
 pub use queues::Queues;
+pub use streams::Streams;

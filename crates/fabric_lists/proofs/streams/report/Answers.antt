@@ -1,6 +1,16 @@
+use Rattle.std.proofs.Common.{◌∙◌}
 use Rattle.net_present.specs.StreamSteps.{sends_status_now}
 use Rattle.fabric_lists.proofs.streams.report.Goals as goal
-use Rattle.fabric_lists.proofs.StreamLemmas.{written}
+use Rattle.fabric_lists.proofs.FlagLemmas.{flagged, has_stream}
+use Rattle.fabric_lists.proofs.StreamLemmas.{written_in, there_in}
 
 pub returns-clause-next : goal.returns-clause-next
-returns-clause-next c = written c.args.streams.now.items c.args.s c.index_mut-stream.result.now c.report.new.self (sends_status_now) c.requires.there c.index_mut-stream.ensures.value c.report.ensures.next
+returns-clause-next c = written_in c.streams.inside.parts.items c.args.streams.now c.args.s c.index_mut-stream.result.now c.report-status.new.self (sends_status_now) c.streams.view_is c.requires.there c.index_mut-stream.ensures.value c.report-status.ensures.next
+
+pub note-requires : goal.note-requires
+note-requires c =
+    has_stream c.streams.inside.parts.items c.streams.inside.flags c.args.s c.streams.invariant
+    (there_in c.streams.inside.parts.items c.args.streams.now c.args.s c.streams.view_is c.requires.there)
+
+pub invariant_of-streams : goal.invariant_of-streams
+invariant_of-streams c = c.note.ensures ∙ flagged c.streams.inside.parts.items c.streams.inside.flags c.args.s c.report-status.new.self c.streams.invariant

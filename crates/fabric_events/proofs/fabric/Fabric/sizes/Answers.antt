@@ -17,6 +17,6 @@ overflow_mul-result c =
 
 pub returns : goal.returns
 returns c =
-    sizes_are c.args.self.now c.len.result c.len-2.result c.len-3.result c.len-4.result c.requires (c.len.ensures ∙ c.args.self.now.streams.ok.0) c.len-2.ensures
+    sizes_are c.args.self.now c.len.result c.len-2.result c.len-3.result c.len-4.result c.requires c.len.ensures c.len-2.ensures
     (c.len-3.ensures ∙ ap (λ (p : Plan). length p.nodes) c.plan-tree.ensures.same)
     (c.len-4.ensures ∙ ap (λ (p : Plan). length p.links) c.plan-tree.ensures.same)

@@ -4,7 +4,7 @@ use Rattle.std.specs.List.{range_with_len}
 use Rattle.net_machine.specs.Plans.{plan_at}
 use Rattle.fabric_lists.specs.Opened.{is_tx_stream, opened_now}
 use Rattle.fabric_lists.specs.StreamsView.{now_in, plan_in, tx_in}
-use Rattle.fabric_lists.proofs.begin.opened_streams.Given as goal
+use Rattle.fabric_lists.proofs.begin.opened_parts.Given as goal
 
 -- the first streams are opened
 abbrev pub invariant-loop-s : goal.invariant-loop-s

@@ -1,10 +1,7 @@
 use Rattle.std.proofs.Common.{arith}
 use Rattle.fabric_events.specs.Fabrics.{present_of}
-use Rattle.fabric_events.proofs.StillLemmas.{still_past, still_through}
-use Rattle.fabric_events.proofs.fabric.Fabric.next_place.Goals as goal
-
-pub returns-then-k-replies-clause-still : goal.returns-then-k-replies-clause-still
-returns-then-k-replies-clause-still c = still_past (present_of c.args.self.now) c.args.sizes c.args.k c.args.k (omega arith)
+use Rattle.fabric_events.proofs.StillLemmas.{still_through}
+use Rattle.fabric_events.proofs.fabric.Fabric.next_late.Goals as goal
 
 pub returns-in-None-clause-still : goal.returns-in-None-clause-still
 returns-in-None-clause-still c =

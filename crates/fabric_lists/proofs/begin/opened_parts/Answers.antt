@@ -6,7 +6,7 @@ use Rattle.fabric_lists.specs.Opened.{is_tx_stream, opened_now}
 use Rattle.fabric_lists.specs.StreamsView.{now_in, plan_in, tx_in}
 use Rattle.fabric_lists.proofs.OpenedLemmas.{all-opened, all-plans}
 use Rattle.fabric_lists.proofs.PartLemmas.{one-more}
-use Rattle.fabric_lists.proofs.begin.opened_streams.Goals as goal
+use Rattle.fabric_lists.proofs.begin.opened_parts.Goals as goal
 
 pub loop-s-preserved : goal.loop-s-preserved
 loop-s-preserved c =
